@@ -1,0 +1,63 @@
+-- The bench readings, computed.
+use mathlib.Core.Path.{_≡_, refl}
+use mathlib.Core.List.{[], _∷_, _++_}
+use Prim.Native.Nat.{_*_}
+use lib.ListN.{length}
+use Rattle.settings.specs.Settings.{settingsRefusal, samplesGood, frequencyGood, declaredGood, limitGood, levelsGood, orderGood}
+use Rattle.reading.specs.Values.{root, values}
+use Rattle.bench_readings.specs.Bench.{BenchReadings, q, qWith, all, change, recordsOf}
+
+q-is-accepted : settingsRefusal q ≡ 0
+unfolding settingsRefusal samplesGood frequencyGood declaredGood limitGood levelsGood orderGood
+q-is-accepted = refl
+
+-- the long recordings, each in a declaration of its own
+change-has-252 : length (values q change) ≡ 252
+unfolding root
+change-has-252 = refl
+
+change-is-due : recordsOf q change ≡ record { kind = 4; start = 151; duration = 1; first = 6368; second = 6368 } ∷ []
+unfolding root
+change-is-due = refl
+
+change-is-not-due-before : recordsOf q (all (150 * 8) 100 ++ all (102 * 8) 96) ≡ []
+unfolding root
+change-is-not-due-before = refl
+
+change-is-at-393 : recordsOf (qWith 8 393) change ≡ record { kind = 4; start = 151; duration = 1; first = 6368; second = 6368 } ∷ []
+unfolding root
+change-is-at-393 = refl
+
+none-is-at-394 : recordsOf (qWith 8 394) change ≡ []
+unfolding root
+none-is-at-394 = refl
+
+pub bench-holds : BenchReadings
+unfolding root
+bench-holds = record {
+  q-accepted = q-is-accepted;
+  all-lowest = refl;
+  all-zero = refl;
+  one-of-sixteen = refl;
+  one-of-512 = refl;
+  hundreds-and-fifties = refl;
+  all-90 = refl;
+  no-dip-at-90 = refl;
+  all-89 = refl;
+  dip-at-89 = refl;
+  then-92 = refl;
+  ended-at-92 = refl;
+  then-91 = refl;
+  stands-at-91 = refl;
+  dip-at-91 = refl;
+  change-count = change-has-252;
+  change-due = change-is-due;
+  change-not-before = change-is-not-due-before;
+  change-at-393 = change-is-at-393;
+  none-at-394 = none-is-at-394;
+  program-record = refl;
+  program-bytes = refl;
+  program-count = refl;
+  program-taken = refl;
+  program-why = refl;
+}

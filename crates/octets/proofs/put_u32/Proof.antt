@@ -1,0 +1,19 @@
+-- `octets::put_u32` meets its contract: the part has 4 bytes, so as many are written (`written`).
+use borrow.Author.Needs.{needs}
+use Rattle.octets.proofs.Widths.{written}
+use Rattle.octets.proofs.put_u32.Statement.{statement}
+use Rattle.octets.proofs.put_u32.Tie as tie
+
+put-number-requires : tie.Need-put-number-requires
+put-number-requires c κs = search needs
+
+same-length : tie.Need-same-length
+same-length c = search needs
+
+returns : tie.Need-returns
+returns c =
+    let start = c .before .before .before .before .before in
+    written 4 (start .args .x) (start .args .part .now) (c .before .before .put-number .last .0) (start .pre) (c .before .before .put-number .ensures)
+
+pub put-u32-spec : {M : Type 1} → statement M
+put-u32-spec = tie.close (tie.spec put-number-requires same-length returns)

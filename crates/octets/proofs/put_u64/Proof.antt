@@ -1,0 +1,19 @@
+-- `octets::put_u64` meets its contract: the part has 8 bytes, so as many are written (`written`).
+use borrow.Author.Needs.{needs}
+use Rattle.octets.proofs.Widths.{written}
+use Rattle.octets.proofs.put_u64.Statement.{statement}
+use Rattle.octets.proofs.put_u64.Tie as tie
+
+put-number-requires : tie.Need-put-number-requires
+put-number-requires c κs = search needs
+
+same-length : tie.Need-same-length
+same-length c = search needs
+
+returns : tie.Need-returns
+returns c =
+    let start = c .before .before .before .before .before in
+    written 8 (start .args .x) (start .args .part .now) (c .before .before .put-number .last .0) (start .pre) (c .before .before .put-number .ensures)
+
+pub put-u64-spec : {M : Type 1} → statement M
+put-u64-spec = tie.close (tie.spec put-number-requires same-length returns)

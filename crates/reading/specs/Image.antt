@@ -1,0 +1,73 @@
+-- 01, "The image": the 620 bytes of a recording.
+use mathlib.Core.Bool.{Bool, true, false}
+use mathlib.Core.List.{List, [], _∷_, _++_, reverse}
+use Prim.Native.Nat.{ℕ, zero, suc, _+_, _-_, _*_, _%_}
+use lib.ListN.{length, take, drop, replicate}
+use lib.IntN.{ℤ}
+use Rattle.octets.specs.Bytes.{bytesOf, words}
+use Rattle.settings.specs.declared.Settings.{Settings}
+use Rattle.settings.specs.Notation.{_<ᵇ_, _≡ᵇ_, if_then_else_}
+use Rattle.settings.specs.Settings.{windowLength, settingsBytes}
+use Rattle.reading.specs.declared.Kind.{Kind}
+use Rattle.reading.specs.declared.Kind.the-variants.{Dip, Swell, Interruption}
+use Rattle.reading.specs.Values.{squares, energy, halves, values, since}
+use Rattle.reading.specs.Thresholds.{standsSince, magnitude}
+use Rattle.reading.specs.Changes.{Signal, signal, sumBefore, greatestDifference, firstStand}
+use Rattle.reading.specs.Changes.Signal.{filling, unsettled, steady, changing}
+
+-- the table of contents: code, offset and length of each body
+abbrev pub entry : ℕ → ℕ → ℕ → List ℕ
+entry number offset size = bytesOf 4 number ++ (bytesOf 2 offset ++ bytesOf 2 size)
+
+abbrev pub table : List ℕ
+table = entry 1 32 36 ++ (entry 2 68 24 ++ (entry 3 92 484 ++ entry 4 576 44))
+
+abbrev pub flag : Bool → ℕ
+flag true = 1
+flag false = 0
+
+-- body 2: of the half-cycle in progress the count and the sum; the last whole half-cycle's sum, 0 without one; whether there is one
+abbrev pub lastSum : Settings → List ℤ → ℕ → ℕ
+lastSum s rec zero = 0
+lastSum s rec (suc h) = energy s rec (suc h)
+
+abbrev pub gathererBytes : Settings → List ℤ → List ℕ
+gathererBytes s rec =
+    let whole = halves s rec in
+    bytesOf 4 (length rec % s .samples) ++ (bytesOf 8 (squares (drop (whole * s .samples) rec)) ++ (bytesOf 8 (lastSum s rec whole) ++ bytesOf 4 (flag (0 <ᵇ whole))))
+
+-- body 3: V, then 120 places with the last N values at most, oldest first, the rest 0
+abbrev pub valuesBytes : Settings → List ℕ → List ℕ
+valuesBytes s hist =
+    let kept = reverse (take (windowLength s) hist) in
+    bytesOf 4 (length hist) ++ words (kept ++ replicate (120 - length kept) 0)
+
+-- body 4: the phase's number and, in a change, k, A(k − 1), the greatest difference, the first value at which a dip or swell first stands
+abbrev pub phaseNumber : Signal → ℕ
+phaseNumber filling = 0
+phaseNumber unsettled = 1
+phaseNumber steady = 2
+phaseNumber (changing k) = 3
+
+abbrev pub changeNumbers : Settings → List ℕ → Signal → List ℕ
+changeNumbers s hist filling = 0 ∷ 0 ∷ 0 ∷ 0 ∷ []
+changeNumbers s hist unsettled = 0 ∷ 0 ∷ 0 ∷ 0 ∷ []
+changeNumbers s hist steady = 0 ∷ 0 ∷ 0 ∷ 0 ∷ []
+changeNumbers s hist (changing k) = k ∷ sumBefore s k hist ∷ greatestDifference s k hist ∷ firstStand s k hist ∷ []
+
+-- then start and magnitude so far of the dip, the swell and the interruption, 0 and 0 where none stands
+abbrev pub standingNumbers : Settings → Kind → List ℕ → List ℕ
+standingNumbers s k hist =
+    let a = standsSince s k hist in
+    let so-far = magnitude k (since a hist) in
+    if a ≡ᵇ 0 then 0 ∷ 0 ∷ [] else a ∷ so-far ∷ []
+
+abbrev pub eventsBytes : Settings → List ℕ → List ℕ
+eventsBytes s hist =
+    let now = signal s hist in
+    words (phaseNumber now ∷ (changeNumbers s hist now ++ (standingNumbers s Dip hist ++ (standingNumbers s Swell hist ++ standingNumbers s Interruption hist))))
+
+abbrev pub imageOf : Settings → List ℤ → List ℕ
+imageOf s rec =
+    let hist = values s rec in
+    table ++ (settingsBytes s ++ (gathererBytes s rec ++ (valuesBytes s hist ++ eventsBytes s hist)))

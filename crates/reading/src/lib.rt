@@ -1,0 +1,28 @@
+// The plain data that the readings in specs/ speak of.
+
+// The events that are told by a threshold.
+pub enum Kind {
+    Dip,
+    Swell,
+    Interruption,
+}
+
+// An event that is over, as its record tells it. The kind is the record's: 1 dip, 2 swell, 3 interruption, 4 rapid voltage change.
+pub struct Event {
+    pub kind: u8,
+    pub start: u64,
+    pub duration: u64,
+    pub first: u64,
+    pub second: u64,
+}
+
+// What look tells: the count of values, the newest one and the sum of the window, 0 where there is none; the phase's number; the events that stand.
+pub struct Readings {
+    pub count: u64,
+    pub value: u64,
+    pub sum: u64,
+    pub phase: u8,
+    pub dip: bool,
+    pub swell: bool,
+    pub interruption: bool,
+}

@@ -1,0 +1,4 @@
+pub mod Notation
+pub mod NotationLaws
+pub mod Settings
+pub mod SettingsLaws

@@ -1,0 +1,91 @@
+-- 01, "Settings": nine numbers of 4 bytes, their ranges, and the refusals of start.
+use mathlib.Core.Bool.{Bool, _&&_, _||_}
+use mathlib.Core.List.{List, [], _∷_}
+use Prim.Native.Nat.{ℕ, zero, suc, _+_, _-_, _*_, _/_}
+use lib.ListN.{length}
+use Rattle.octets.specs.Bytes.{words, numberAt}
+use Rattle.settings.specs.Notation.{_≤ᵇ_, _<ᵇ_, _≡ᵇ_, if_then_else_, refuse_unless_then_}
+use Rattle.settings.specs.declared.Settings.{Settings}
+use Rattle.settings.specs.declared.SettingsRead.{SettingsRead}
+use Rattle.settings.specs.declared.SettingsRead.the-variants.{Read, Refused}
+use Rattle.settings.specs.declared.Scaled.{Scaled}
+
+-- N, the values in the window: 100 at 50 Hz, else 120
+abbrev pub windowLength : Settings → ℕ
+windowLength s = if s .frequency ≡ᵇ 50 then 100 else 120
+
+-- M, F, U, T, H, I, D, W, G
+abbrev pub numbersOf : Settings → List ℕ
+numbersOf s = s .samples ∷ s .frequency ∷ s .declared ∷ s .limit ∷ s .reduction ∷ s .interruption ∷ s .dip ∷ s .swell ∷ s .hysteresis ∷ []
+
+-- the settings as 36 bytes, and the settings that 36 bytes are, in range or not
+abbrev pub settingsBytes : Settings → List ℕ
+settingsBytes s = words (numbersOf s)
+
+abbrev pub settingsOf : List ℕ → Settings
+settingsOf b = record {
+  samples = numberAt 0 4 b;
+  frequency = numberAt 4 4 b;
+  declared = numberAt 8 4 b;
+  limit = numberAt 12 4 b;
+  reduction = numberAt 16 4 b;
+  interruption = numberAt 20 4 b;
+  dip = numberAt 24 4 b;
+  swell = numberAt 28 4 b;
+  hysteresis = numberAt 32 4 b;
+}
+
+-- M is 8 to 256
+unfoldable pub samplesGood : Settings → Bool
+samplesGood s = 8 ≤ᵇ s .samples && s .samples ≤ᵇ 256
+
+-- F is 50 or 60
+unfoldable pub frequencyGood : Settings → Bool
+frequencyGood s = s .frequency ≡ᵇ 50 || s .frequency ≡ᵇ 60
+
+-- U is 16 to 524,288
+unfoldable pub declaredGood : Settings → Bool
+declaredGood s = 16 ≤ᵇ s .declared && s .declared ≤ᵇ 524288
+
+-- T is 50 to 600, and H is below T
+unfoldable pub limitGood : Settings → Bool
+limitGood s = 50 ≤ᵇ s .limit && (s .limit ≤ᵇ 600 && s .reduction <ᵇ s .limit)
+
+-- I, D, W and G are each at most 20,000, and I at least 1
+unfoldable pub levelsGood : Settings → Bool
+levelsGood s = 1 ≤ᵇ s .interruption && (s .interruption ≤ᵇ 20000 && (s .dip ≤ᵇ 20000 && (s .swell ≤ᵇ 20000 && s .hysteresis ≤ᵇ 20000)))
+
+-- I + G ≤ D, and D + 2 × G < W
+unfoldable pub orderGood : Settings → Bool
+orderGood s = s .interruption + s .hysteresis ≤ᵇ s .dip && s .dip + 2 * s .hysteresis <ᵇ s .swell
+
+-- start's refusals: the lowest number that applies, 0 where none does
+unfoldable pub settingsRefusal : Settings → ℕ
+settingsRefusal s =
+    refuse 2 unless samplesGood s then
+    refuse 3 unless frequencyGood s then
+    refuse 4 unless declaredGood s then
+    refuse 5 unless limitGood s then
+    refuse 6 unless levelsGood s && orderGood s then
+    0
+
+unfoldable pub startRefusal : List ℕ → ℕ
+startRefusal b = refuse 1 unless length b ≡ᵇ 36 then settingsRefusal (settingsOf b)
+
+-- the answer to settings bytes: the settings, or 01's number of the refusal
+abbrev pub answerOf : ℕ → Settings → SettingsRead
+answerOf zero s = Read s
+answerOf (suc n) s = Refused (suc n)
+
+unfoldable pub settingsRead : List ℕ → SettingsRead
+settingsRead b = answerOf (startRefusal b) (settingsOf b)
+
+-- the levels scaled for exact comparison with 10,000 × r, and the RVC limits for one with |N × r − A|: 10,000 × x ≤ t exactly where x ≤ t / 10,000
+abbrev pub scaledOf : Settings → Scaled
+scaledOf s = record {
+  dip = record { begins = s .dip * s .declared; ends = (s .dip + s .hysteresis) * s .declared };
+  swell = record { begins = s .swell * s .declared; ends = (s .swell - s .hysteresis) * s .declared };
+  interruption = record { begins = s .interruption * s .declared; ends = (s .interruption + s .hysteresis) * s .declared };
+  limit = s .limit * windowLength s * s .declared / 10000;
+  reduced = (s .limit - s .reduction) * windowLength s * s .declared / 10000;
+}

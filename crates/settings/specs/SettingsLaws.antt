@@ -1,0 +1,159 @@
+-- Settings that start accepts, as facts; settings to bytes and back, both ways; and what an answer tells.
+use mathlib.Core.Path.{_≡_, refl, sym, _∙_, ap, ap₂}
+use mathlib.Core.Bool.{Bool, true, false, _&&_, _||_}
+use mathlib.Core.List.{List, [], append-nil}
+use Prim.Native.Nat.{ℕ, zero, suc, _+_, _*_, _≤_, _<_}
+use native.Mathlib.Omega.{arith}
+use lib.ListN.{length, take, getD}
+use lib.Seq.{take-length}
+use borrow.Author.Tests.{eqb-true, eq-eqb, leb-true, le-leb, ltb-true, lt-ltb}
+use Rattle.octets.specs.Bytes.{Bytes}
+use Rattle.octets.specs.BytesLaws.{Words, length-words, wordsAt-words, words-wordsAt}
+use Rattle.settings.specs.Notation.{_≤ᵇ_, _<ᵇ_, _≡ᵇ_}
+use Rattle.settings.specs.NotationLaws.{and-true, and-left, and-right, refuse-passes, refuse-none}
+use Rattle.settings.specs.Settings.{numbersOf, settingsBytes, settingsOf, settingsRefusal, startRefusal, answerOf, settingsRead}
+use Rattle.settings.specs.Settings.{samplesGood, frequencyGood, declaredGood, limitGood, levelsGood, orderGood}
+use Rattle.settings.specs.declared.Settings.{Settings}
+use Rattle.settings.specs.declared.SettingsRead.the-variants.{Read, Refused}
+
+-- what the refusals 2 to 6 leave
+pub record ValidSettings (s : Settings) : Type 0 where
+  pub samples-least : 8 ≤ s .samples
+  pub samples-most : s .samples ≤ 256
+  pub frequency-known : (s .frequency ≡ᵇ 50 || s .frequency ≡ᵇ 60) ≡ true
+  pub declared-least : 16 ≤ s .declared
+  pub declared-most : s .declared ≤ 524288
+  pub limit-least : 50 ≤ s .limit
+  pub limit-most : s .limit ≤ 600
+  pub reduction-less : s .reduction < s .limit
+  pub interruption-least : 1 ≤ s .interruption
+  pub interruption-most : s .interruption ≤ 20000
+  pub dip-most : s .dip ≤ 20000
+  pub swell-most : s .swell ≤ 20000
+  pub hysteresis-most : s .hysteresis ≤ 20000
+  pub dip-above : s .interruption + s .hysteresis ≤ s .dip
+  pub swell-above : s .dip + 2 * s .hysteresis < s .swell
+
+module _ (s : Settings) where
+  abbrev levels : Bool
+  levels = s .interruption ≤ᵇ 20000 && (s .dip ≤ᵇ 20000 && (s .swell ≤ᵇ 20000 && s .hysteresis ≤ᵇ 20000))
+
+  abbrev upper : Bool
+  upper = s .dip ≤ᵇ 20000 && (s .swell ≤ᵇ 20000 && s .hysteresis ≤ᵇ 20000)
+
+  pub refusal-valid : settingsRefusal s ≡ 0 → ValidSettings s
+  unfolding settingsRefusal samplesGood frequencyGood declaredGood limitGood levelsGood orderGood
+  refusal-valid e =
+      let r2 = refuse-none 2 (samplesGood s) _ (omega arith) e in
+      let r3 = refuse-none 3 (frequencyGood s) _ (omega arith) (r2 .1) in
+      let r4 = refuse-none 4 (declaredGood s) _ (omega arith) (r3 .1) in
+      let r5 = refuse-none 5 (limitGood s) _ (omega arith) (r4 .1) in
+      let r6 = refuse-none 6 (levelsGood s && orderGood s) _ (omega arith) (r5 .1) in
+      let in-range = and-left (levelsGood s) (orderGood s) (r6 .0) in
+      let in-order = and-right (levelsGood s) (orderGood s) (r6 .0) in
+      let below = and-right (50 ≤ᵇ s .limit) (s .limit ≤ᵇ 600 && s .reduction <ᵇ s .limit) (r5 .0) in
+      let most = and-right (1 ≤ᵇ s .interruption) levels in-range in
+      let uppers = and-right (s .interruption ≤ᵇ 20000) upper most in
+      let last = and-right (s .dip ≤ᵇ 20000) (s .swell ≤ᵇ 20000 && s .hysteresis ≤ᵇ 20000) uppers in
+      record {
+        samples-least = leb-true _ _ (and-left (8 ≤ᵇ s .samples) (s .samples ≤ᵇ 256) (r2 .0));
+        samples-most = leb-true _ _ (and-right (8 ≤ᵇ s .samples) (s .samples ≤ᵇ 256) (r2 .0));
+        frequency-known = r3 .0;
+        declared-least = leb-true _ _ (and-left (16 ≤ᵇ s .declared) (s .declared ≤ᵇ 524288) (r4 .0));
+        declared-most = leb-true _ _ (and-right (16 ≤ᵇ s .declared) (s .declared ≤ᵇ 524288) (r4 .0));
+        limit-least = leb-true _ _ (and-left (50 ≤ᵇ s .limit) (s .limit ≤ᵇ 600 && s .reduction <ᵇ s .limit) (r5 .0));
+        limit-most = leb-true _ _ (and-left (s .limit ≤ᵇ 600) (s .reduction <ᵇ s .limit) below);
+        reduction-less = ltb-true _ _ (and-right (s .limit ≤ᵇ 600) (s .reduction <ᵇ s .limit) below);
+        interruption-least = leb-true _ _ (and-left (1 ≤ᵇ s .interruption) levels in-range);
+        interruption-most = leb-true _ _ (and-left (s .interruption ≤ᵇ 20000) upper most);
+        dip-most = leb-true _ _ (and-left (s .dip ≤ᵇ 20000) (s .swell ≤ᵇ 20000 && s .hysteresis ≤ᵇ 20000) uppers);
+        swell-most = leb-true _ _ (and-left (s .swell ≤ᵇ 20000) (s .hysteresis ≤ᵇ 20000) last);
+        hysteresis-most = leb-true _ _ (and-right (s .swell ≤ᵇ 20000) (s .hysteresis ≤ᵇ 20000) last);
+        dip-above = leb-true _ _ (and-left (s .interruption + s .hysteresis ≤ᵇ s .dip) (s .dip + 2 * s .hysteresis <ᵇ s .swell) in-order);
+        swell-above = ltb-true _ _ (and-right (s .interruption + s .hysteresis ≤ᵇ s .dip) (s .dip + 2 * s .hysteresis <ᵇ s .swell) in-order);
+      }
+
+  pub valid-refusal : ValidSettings s → settingsRefusal s ≡ 0
+  unfolding settingsRefusal samplesGood frequencyGood declaredGood limitGood levelsGood orderGood
+  valid-refusal v =
+      let levels-are : levelsGood s ≡ true =
+      and-true (le-leb _ _ (v .interruption-least)) (and-true (le-leb _ _ (v .interruption-most))
+      (and-true (le-leb _ _ (v .dip-most)) (and-true (le-leb _ _ (v .swell-most)) (le-leb _ _ (v .hysteresis-most))))) in
+      let order-is : orderGood s ≡ true = and-true (le-leb _ _ (v .dip-above)) (lt-ltb _ _ (v .swell-above)) in
+      refuse-passes 2 _ (and-true (le-leb _ _ (v .samples-least)) (le-leb _ _ (v .samples-most)))
+      ∙ refuse-passes 3 _ (v .frequency-known)
+      ∙ refuse-passes 4 _ (and-true (le-leb _ _ (v .declared-least)) (le-leb _ _ (v .declared-most)))
+      ∙ refuse-passes 5 _ (and-true (le-leb _ _ (v .limit-least)) (and-true (le-leb _ _ (v .limit-most)) (lt-ltb _ _ (v .reduction-less))))
+      ∙ refuse-passes 6 _ (and-true levels-are order-is)
+
+  pub frequency-most : ValidSettings s → s .frequency ≤ 60
+  frequency-most v = go (s .frequency ≡ᵇ 50) refl (v .frequency-known)
+    where
+      go : (b : Bool) → (s .frequency ≡ᵇ 50) ≡ b → (b || s .frequency ≡ᵇ 60) ≡ true → s .frequency ≤ 60
+      go true p q = omega (arith, eqb-true (s .frequency) 50 p)
+      go false p q = omega (arith, eqb-true (s .frequency) 60 q)
+
+  -- each of the nine numbers fits 4 bytes
+  pub valid-words : ValidSettings s → Words (numbersOf s)
+  valid-words v = let f = frequency-most v in
+      (omega arith, (omega arith, (omega arith, (omega arith, (omega arith, (omega arith, (omega arith, (omega arith, (omega arith, tt)))))))))
+
+-- the settings that nine numbers are
+abbrev pub settingsFrom : List ℕ → Settings
+settingsFrom ns = record {
+  samples = getD ns 0 0;
+  frequency = getD ns 1 0;
+  declared = getD ns 2 0;
+  limit = getD ns 3 0;
+  reduction = getD ns 4 0;
+  interruption = getD ns 5 0;
+  dip = getD ns 6 0;
+  swell = getD ns 7 0;
+  hysteresis = getD ns 8 0;
+}
+
+-- settings → bytes → settings
+pub settingsOf-settingsBytes : (s : Settings) → ValidSettings s → settingsOf (settingsBytes s) ≡ s
+settingsOf-settingsBytes s v = ap settingsFrom (wordsAt-words (settingsBytes s) 0 (numbersOf s) [] (sym (append-nil (settingsBytes s))) (valid-words s v))
+
+pub settingsRead-settingsBytes : (s : Settings) → ValidSettings s → settingsRead (settingsBytes s) ≡ Read s
+unfolding settingsRead startRefusal
+settingsRead-settingsBytes s v =
+    let e = settingsOf-settingsBytes s v in
+    let l : length (settingsBytes s) ≡ 36 = length-words (numbersOf s) in
+    let n : startRefusal (settingsBytes s) ≡ 0 =
+    refuse-passes 1 _ (eq-eqb (length (settingsBytes s)) 36 l) ∙ (ap settingsRefusal e ∙ valid-refusal s v) in
+    ap₂ answerOf n e
+
+-- what an answer tells
+module _ (b : List ℕ) where
+  pub record Accepted (s : Settings) : Type 0 where
+    pub long : length b ≡ 36
+    pub settings-are : s ≡ settingsOf b
+    pub valid : ValidSettings s
+
+  pub read-accepted : (s : Settings) → settingsRead b ≡ Read s → Accepted s
+  unfolding settingsRead startRefusal
+  read-accepted s e = go (startRefusal b) refl e
+    where
+      go : (n : ℕ) → startRefusal b ≡ n → answerOf n (settingsOf b) ≡ Read s → Accepted s
+      go zero p q =
+          let r = refuse-none 1 (length b ≡ᵇ 36) (settingsRefusal (settingsOf b)) (omega arith) p in
+          let same : settingsOf b ≡ s = cc in
+          record { long = eqb-true _ _ (r .0); settings-are = sym same; valid = refusal-valid s (ap settingsRefusal (sym same) ∙ r .1) }
+      go (suc n) p q = let z : _≡_ {A = ℕ} 0 1 = cc in absurd (omega arith)
+
+  -- bytes → settings → bytes
+  pub settingsBytes-settingsRead : Bytes b → (s : Settings) → settingsRead b ≡ Read s → settingsBytes s ≡ b
+  settingsBytes-settingsRead are s e =
+      let a = read-accepted s e in
+      let l = a .long in
+      ap settingsBytes (a .settings-are) ∙ (words-wordsAt b are 0 9 (omega arith) ∙ (ap (λ (n : ℕ). take n b) (sym l) ∙ take-length b))
+
+  pub refused-refusal : (n : ℕ) → settingsRead b ≡ Refused n → startRefusal b ≡ n
+  unfolding settingsRead
+  refused-refusal n e = go (startRefusal b) refl e
+    where
+      go : (k : ℕ) → startRefusal b ≡ k → answerOf k (settingsOf b) ≡ Refused n → startRefusal b ≡ n
+      go zero p q = let z : _≡_ {A = ℕ} 0 1 = cc in absurd (omega arith)
+      go (suc k) p q = let same : suc k ≡ n = cc in p ∙ same

@@ -1,0 +1,68 @@
+-- One value's step of a dip, a swell or an interruption, and what a history leaves of it.
+use mathlib.Core.Bool.{Bool, _&&_}
+use mathlib.Core.List.{List, [], _∷_}
+use Prim.Native.Nat.{ℕ, zero, suc, _-_, _*_, min, max}
+use Rattle.settings.specs.declared.Settings.{Settings}
+use Rattle.settings.specs.declared.Threshold.{Threshold}
+use Rattle.settings.specs.Notation.{_≤ᵇ_, _<ᵇ_, _≡ᵇ_, if_then_else_}
+use Rattle.settings.specs.Settings.{scaledOf}
+use Rattle.reading.specs.declared.Kind.{Kind}
+use Rattle.reading.specs.declared.Kind.the-variants.{Dip, Swell, Interruption}
+use Rattle.reading.specs.declared.Event.{Event}
+use Rattle.reading.specs.Values.{since}
+use Rattle.reading.specs.Thresholds.{standsSince, magnitude}
+use Rattle.threshold.specs.declared.Standing.{Standing}
+use Rattle.threshold.specs.declared.Ended.{Ended}
+
+-- the two tests against a kind's scaled levels
+abbrev pub thresholdOf : Settings → Kind → Threshold
+thresholdOf s Dip = scaledOf s .dip
+thresholdOf s Swell = scaledOf s .swell
+thresholdOf s Interruption = scaledOf s .interruption
+
+abbrev pub beginsAt : Kind → Threshold → ℕ → Bool
+beginsAt Dip t r = 10000 * r <ᵇ t .begins
+beginsAt Swell t r = t .begins <ᵇ 10000 * r
+beginsAt Interruption t r = 10000 * r <ᵇ t .begins
+
+abbrev pub endsAt : Kind → Threshold → ℕ → Bool
+endsAt Dip t r = t .ends ≤ᵇ 10000 * r
+endsAt Swell t r = 10000 * r ≤ᵇ t .ends
+endsAt Interruption t r = t .ends ≤ᵇ 10000 * r
+
+abbrev pub worse : Kind → ℕ → ℕ → ℕ
+worse Dip a b = min a b
+worse Swell a b = max a b
+worse Interruption a b = min a b
+
+abbrev pub noEvent : Standing
+noEvent = record { start = 0; magnitude = 0 }
+
+-- an event that goes on with value r
+abbrev pub worsened : Kind → ℕ → Standing → Standing
+worsened k r p = record { start = p .start; magnitude = worse k r (p .magnitude) }
+
+-- after value i, which is r, and which begins the event, ends it, or leaves it as it was
+unfoldable pub stepped : Kind → ℕ → ℕ → Bool → Bool → Standing → Standing
+stepped k i r begins ends p =
+    if begins then (if p .start ≡ᵇ 0 then record { start = i; magnitude = r } else worsened k r p)
+    else if ends then noEvent
+    else if p .start ≡ᵇ 0 then noEvent
+    else worsened k r p
+
+-- the event of a record's kind that stood as p before value i and stands as q after it
+abbrev pub endedAt : ℕ → ℕ → Standing → Standing → List Event
+endedAt code i p q =
+    let e : Event = record { kind = code; start = p .start; duration = i - p .start; first = p .magnitude; second = 0 } in
+    if 0 <ᵇ p .start && q .start ≡ᵇ 0 then e ∷ [] else []
+
+abbrev pub listOf : Ended → List Event
+listOf e = if e .over then e .event ∷ [] else []
+
+-- what a history leaves
+abbrev pub magnitudeSince : Kind → ℕ → List ℕ → ℕ
+magnitudeSince k zero hist = 0
+magnitudeSince k (suc a) hist = magnitude k (since (suc a) hist)
+
+abbrev pub standingOf : Settings → Kind → List ℕ → Standing
+standingOf s k hist = record { start = standsSince s k hist; magnitude = magnitudeSince k (standsSince s k hist) hist }

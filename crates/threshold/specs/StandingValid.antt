@@ -1,0 +1,45 @@
+-- What refusal 11 allows of an event is kept by the step, from every allowed state, also from one that no recording gives.
+use mathlib.Core.Path.{_≡_, refl}
+use mathlib.Core.Bool.{Bool, true, false}
+use Prim.Native.Nat.{ℕ, suc, _≤_}
+use native.Mathlib.Omega.{arith}
+use borrow.Author.Tests.{eqb-false}
+use Rattle.settings.specs.Notation.{_≡ᵇ_, if_then_else_}
+use Rattle.reading.specs.declared.Kind.{Kind}
+use Rattle.reading.specs.declared.Kind.the-variants.{Dip, Swell, Interruption}
+use Rattle.threshold.specs.declared.Standing.{Standing}
+use Rattle.threshold.specs.Standing.{worse, worsened, noEvent, stepped}
+
+-- after v values
+pub record ValidStanding (v : ℕ) (p : Standing) : Type 0 where
+  pub start-le : p .start ≤ v
+  pub magnitude-le : p .magnitude ≤ 524288
+  pub none-zero : p .start ≡ 0 → p .magnitude ≡ 0
+
+pub noEvent-valid : (v : ℕ) → ValidStanding v noEvent
+noEvent-valid v = record { start-le = omega arith; magnitude-le = omega arith; none-zero = λ e. refl }
+
+worse-le : (k : Kind) (a b : ℕ) → a ≤ 524288 → b ≤ 524288 → worse k a b ≤ 524288
+worse-le Dip a b p q = omega arith
+worse-le Swell a b p q = omega arith
+worse-le Interruption a b p q = omega arith
+
+module _ (k : Kind) (v r : ℕ) (p : Standing) (r-le : r ≤ 524288) (valid : ValidStanding v p) where
+  worsened-valid : (p .start ≡ 0 → ⊥) → ValidStanding (suc v) (worsened k r p)
+  worsened-valid some = record {
+    start-le = omega (arith, valid .start-le);
+    magnitude-le = worse-le k r (p .magnitude) r-le (valid .magnitude-le);
+    none-zero = λ e. absurd (some e);
+  }
+
+  pub stepped-valid : (begins ends : Bool) → ValidStanding (suc v) (stepped k (suc v) r begins ends p)
+  unfolding stepped
+  stepped-valid begins ends = go begins ends (p .start ≡ᵇ 0) refl
+    where
+      go : (b e z : Bool) → (p .start ≡ᵇ 0) ≡ z →
+          ValidStanding (suc v) (if b then (if z then record { start = suc v; magnitude = r } else worsened k r p) else if e then noEvent else if z then noEvent else worsened k r p)
+      go true e true h = record { start-le = omega arith; magnitude-le = r-le; none-zero = λ q. absurd (omega arith) }
+      go true e false h = worsened-valid (eqb-false (p .start) 0 h)
+      go false true z h = noEvent-valid (suc v)
+      go false false true h = noEvent-valid (suc v)
+      go false false false h = worsened-valid (eqb-false (p .start) 0 h)
