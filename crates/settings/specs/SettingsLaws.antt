@@ -9,12 +9,27 @@ use lib.Seq.{take-length}
 use borrow.Author.Tests.{eqb-true, eq-eqb, leb-true, le-leb, ltb-true, lt-ltb}
 use Rattle.octets.specs.Bytes.{Bytes}
 use Rattle.octets.specs.BytesLaws.{Words, length-words, wordsAt-words, words-wordsAt}
-use Rattle.settings.specs.Notation.{_≤ᵇ_, _<ᵇ_, _≡ᵇ_}
+use Rattle.settings.specs.Notation.{_≤ᵇ_, _<ᵇ_, _≡ᵇ_, if_then_else_}
 use Rattle.settings.specs.NotationLaws.{and-true, and-left, and-right, refuse-passes, refuse-none}
-use Rattle.settings.specs.Settings.{numbersOf, settingsBytes, settingsOf, settingsRefusal, startRefusal, answerOf, settingsRead}
+use Rattle.settings.specs.Settings.{windowLength, numbersOf, settingsBytes, settingsOf, settingsRefusal, startRefusal, answerOf, settingsRead}
 use Rattle.settings.specs.Settings.{samplesGood, frequencyGood, declaredGood, limitGood, levelsGood, orderGood}
 use Rattle.settings.specs.declared.Settings.{Settings}
 use Rattle.settings.specs.declared.SettingsRead.the-variants.{Read, Refused}
+
+-- the window has 100 or 120 values
+pub windowLength-some : (s : Settings) → 0 < windowLength s
+windowLength-some s = go (s .frequency ≡ᵇ 50)
+  where
+    go : (b : Bool) → 0 < (if b then 100 else 120)
+    go true = omega arith
+    go false = omega arith
+
+pub windowLength-most : (s : Settings) → windowLength s ≤ 120
+windowLength-most s = go (s .frequency ≡ᵇ 50)
+  where
+    go : (b : Bool) → (if b then 100 else 120) ≤ 120
+    go true = omega arith
+    go false = omega arith
 
 -- what the refusals 2 to 6 leave
 pub record ValidSettings (s : Settings) : Type 0 where

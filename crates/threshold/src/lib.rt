@@ -3,6 +3,7 @@ use reading::Event;
 use reading::Kind;
 use settings::Threshold;
 ghost use mathlib.Core.Path.{_≡_};
+ghost use mathlib.Core.List.{[]};
 ghost use Prim.Native.Nat.{_*_, _≤_, min, max};
 ghost use Rattle.threshold.specs.Standing.{beginsAt, endsAt, worse, noEvent, worsened, stepped, listOf, endedAt};
 
@@ -16,6 +17,21 @@ pub struct Standing {
 pub struct Ended {
     pub over: bool,
     pub event: Event,
+}
+
+impl Ended {
+    pub fn none() -> Ended
+        ensures { λ r. ⌜ listOf r ≡ [] ⌝ }
+    {
+        let event = Event {
+            kind: 0,
+            start: 0,
+            duration: 0,
+            first: 0,
+            second: 0,
+        };
+        Ended { over: false, event }
+    }
 }
 
 // Whether a value is beyond the level at which an event begins. Values and levels are compared in 10,000ths.
