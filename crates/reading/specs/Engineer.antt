@@ -1,9 +1,7 @@
 -- 01, "The engineer" of demand 3: what is kept of a list of calls, and each call's answer, read from the recording and the settings only.
-use mathlib.Core.Path.{_≡_}
-use mathlib.Core.Bool.{Bool, true, false}
 use mathlib.Core.Logic.{_≢_}
 use mathlib.Core.List.{List, [], _∷_, _++_}
-use Prim.Native.Nat.{ℕ, zero, suc, _+_, _*_, _/_, _<_}
+use Prim.Native.Nat.{ℕ, suc, _/_, _<_}
 use lib.ListN.{length, take, drop, getD}
 use lib.IntN.{ℤ}
 use Rattle.octets.specs.Bytes.{Bytes}
@@ -11,7 +9,6 @@ use Rattle.settings.specs.declared.Settings.{Settings}
 use Rattle.settings.specs.Notation.{_<ᵇ_, if_then_else_}
 use Rattle.settings.specs.Settings.{windowLength}
 use Rattle.reading.specs.declared.Kind.the-variants.{Dip, Swell, Interruption}
-use Rattle.reading.specs.declared.Event.{Event}
 use Rattle.reading.specs.declared.Readings.{Readings}
 use Rattle.reading.specs.Values.{Samples, values}
 use Rattle.reading.specs.Thresholds.{standsSince}

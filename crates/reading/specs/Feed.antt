@@ -1,7 +1,7 @@
 -- 01, "Feed", of a recording: how many samples of a block are taken, which records are written, and why no more.
 use mathlib.Core.Bool.{Bool, true, false, _&&_}
-use mathlib.Core.List.{List, [], _∷_, _++_}
-use Prim.Native.Nat.{ℕ, zero, suc, _+_, _-_, _/_}
+use mathlib.Core.List.{List, [], _++_}
+use Prim.Native.Nat.{ℕ, zero, suc, _+_, _-_}
 use lib.ListN.{length, take}
 use lib.IntN.{ℤ}
 use Rattle.settings.specs.declared.Settings.{Settings}

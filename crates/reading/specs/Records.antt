@@ -1,8 +1,6 @@
 -- 01, "The record".
 use mathlib.Core.List.{List, [], _∷_, _++_}
-use Prim.Native.Nat.{ℕ, zero, suc, _+_, _-_}
-use lib.ListN.{take}
-use lib.IntN.{ℤ}
+use Prim.Native.Nat.{ℕ}
 use Rattle.octets.specs.Bytes.{words}
 use Rattle.settings.specs.declared.Settings.{Settings}
 use Rattle.reading.specs.declared.Kind.the-variants.{Dip, Swell, Interruption}

@@ -8,7 +8,7 @@ use lib.ListN.{length, take, drop, length-append, length-take, length-drop}
 use lib.Seq.{take-append-le, drop-append-le}
 use lib.IntN.{ℤ, pos, negsuc, natAbs}
 use Rattle.settings.specs.declared.Settings.{Settings}
-use Rattle.reading.specs.Values.{Sample, Samples, square, squares, energy, rms, value, halves, valueCount, history, values}
+use Rattle.reading.specs.Values.{Sample, Samples, square, squares, energy, rms, value, halves, valueCount, history}
 use Rattle.reading_laws.specs.Root.{root-is, root-most, root-le}
 use Rattle.reading_laws.specs.Division.{div-same, div-next, div-grow}
 

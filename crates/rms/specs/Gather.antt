@@ -1,5 +1,5 @@
 -- The gatherer's steps, and the gatherer that a recording leaves. 01: count and sum of the half in progress, sum of the last whole half.
-use mathlib.Core.Bool.{Bool, true, false, _&&_}
+use mathlib.Core.Bool.{true, false, _&&_}
 use mathlib.Core.List.{List, [], _∷_, _++_}
 use Prim.Native.Nat.{ℕ, _+_, _-_, _*_, _%_}
 use lib.ListN.{length, drop}

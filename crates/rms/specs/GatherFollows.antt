@@ -17,7 +17,6 @@ use Rattle.reading.specs.Image.{lastSum}
 use Rattle.reading_laws.specs.Division.{mod-same, mod-next}
 use Rattle.reading_laws.specs.Recordings.{samples-drop, squares-append, squares-le, energy-grow, energy-le, history-grow, length-history}
 use Rattle.reading_laws.specs.Recordings.{halves-same, halves-next, valueCount-same, valueCount-next, valueCount-first}
-use Rattle.rms.specs.declared.Gatherer.{Gatherer}
 use Rattle.rms.specs.Gather.{withPart, withHalf, gathered, out, gatheredPart, outOfPart, gatheredAll, outOfAll, gathererOf}
 use Rattle.rms.specs.GatherLaws.{same-gatherer, gathered-half, gathered-part, out-half, out-first, out-part, ValidGatherer}
 

@@ -10,8 +10,8 @@ use lib.ListN.{length}
 use lib.IntN.{ℤ}
 use borrow.Author.Tests.{eq-eqb, ne-eqb}
 use Rattle.settings.specs.Notation.{_≡ᵇ_, if_then_else_}
-use Rattle.reading.specs.Values.{Sample, Samples, square, squares, rms}
-use Rattle.reading_laws.specs.Recordings.{square-le, squares-le, rms-le}
+use Rattle.reading.specs.Values.{Samples, square, squares, rms}
+use Rattle.reading_laws.specs.Recordings.{squares-le, rms-le}
 use Rattle.rms.specs.declared.Gatherer.{Gatherer}
 use Rattle.rms.specs.Gather.{withPart, withHalf, gathered, out, gatheredPart, outOfPart, gatheredAll, outOfAll}
 
