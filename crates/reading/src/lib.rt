@@ -7,13 +7,23 @@ pub enum Kind {
     Interruption,
 }
 
-// An event that is over, as its record tells it. The kind is the record's: 1 dip, 2 swell, 3 interruption, 4 rapid voltage change.
+// An event that is over, as its record tells it, with the record's number for its kind.
 pub struct Event {
     pub kind: u8,
     pub start: u64,
     pub duration: u64,
     pub first: u64,
     pub second: u64,
+}
+
+impl Event {
+    pub const DIP: u8 = 1;
+
+    pub const SWELL: u8 = 2;
+
+    pub const INTERRUPTION: u8 = 3;
+
+    pub const CHANGE: u8 = 4;
 }
 
 // What look tells: the count of values, the newest one and the sum of the window, 0 where there is none; the phase's number; the events that stand.

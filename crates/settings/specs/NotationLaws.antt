@@ -1,6 +1,6 @@
 -- The laws of the notation: what conjunctions and disjunctions of tests say, and what a chain of refusals answers.
 use mathlib.Core.Path.{_≡_, refl, ap}
-use mathlib.Core.Bool.{Bool, true, false, _&&_, _||_}
+use mathlib.Core.Bool.{Bool, true, false, not, _&&_, _||_}
 use Prim.Native.Nat.{ℕ, _<_}
 use native.Mathlib.Omega.{arith}
 use Rattle.settings.specs.Notation.{refuse_unless_then_}
@@ -28,6 +28,15 @@ or-fails b e = ap (λ (a : Bool). a || b) e
 
 pub or-passes : {a : Bool} (b : Bool) → a ≡ true → (a || b) ≡ true
 or-passes b e = ap (λ (a : Bool). a || b) e
+
+-- a test that asks for another
+pub implied : (a b : Bool) → (not a || b) ≡ true → a ≡ true → b ≡ true
+implied true b e p = e
+implied false b e p = let z : _≡_ {A = ℕ} 0 1 = cc in absurd (omega arith)
+
+pub imply : (a b : Bool) → (a ≡ true → b ≡ true) → (not a || b) ≡ true
+imply true b f = f refl
+imply false b f = refl
 
 -- a test that fails gives its refusal, and one that passes gives the rest
 pub refuse-fails : (n : ℕ) {t : Bool} (rest : ℕ) → t ≡ false → (refuse n unless t then rest) ≡ n

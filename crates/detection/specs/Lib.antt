@@ -1,0 +1,4 @@
+pub mod Detection
+pub mod DetectionFollows
+pub mod DetectionValid
+pub mod DetectionSteps

@@ -1,0 +1,4 @@
+pub mod Greedy
+pub mod GreedyLaws
+pub mod GreedyGreatest
+pub mod GreedyFollows

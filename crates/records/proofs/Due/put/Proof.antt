@@ -1,0 +1,105 @@
+-- `Due::put` meets its contract. Each call leaves room for those after it (`length-eventsOf`), and its record stands behind those before it (`placed-records`).
+use mathlib.Core.Path.{_≡_, ap, _∙_}
+use mathlib.Core.List.{List, _++_, append-assoc}
+use Prim.Native.Nat.{ℕ, _+_, _*_, _≤_}
+use native.Mathlib.Omega.{arith}
+use lib.ListN.{length, length-append}
+use borrow.Author.Needs.{needs}
+use Rattle.reading.specs.declared.Event.{Event}
+use Rattle.reading.specs.Records.{recordBytes}
+use Rattle.threshold.specs.Standing.{listOf}
+use Rattle.records.specs.Due.{placed}
+use Rattle.records.specs.DueLaws.{length-eventsOf, placed-records}
+use Rattle.records.proofs.Due.put.Statement.{statement}
+use Rattle.records.proofs.Due.put.Tie as tie
+
+-- the records of four lists, placed one behind the other
+four-placed : (at q₁ q₂ q₃ : ℕ) (es₁ es₂ es₃ es₄ : List Event) (b b₁ b₂ b₃ b₄ : List ℕ) → at + 20 * length (es₁ ++ (es₂ ++ (es₃ ++ es₄))) ≤ length b
+    → q₁ ≡ at + 20 * length es₁ → q₂ ≡ q₁ + 20 * length es₂ → q₃ ≡ q₂ + 20 * length es₃
+    → b₁ ≡ placed at (recordBytes es₁) b → b₂ ≡ placed q₁ (recordBytes es₂) b₁ → b₃ ≡ placed q₂ (recordBytes es₃) b₂ → b₄ ≡ placed q₃ (recordBytes es₄) b₃
+    → b₄ ≡ placed at (recordBytes (es₁ ++ (es₂ ++ (es₃ ++ es₄)))) b
+four-placed at q₁ q₂ q₃ es₁ es₂ es₃ es₄ b b₁ b₂ b₃ b₄ fits e₁ e₂ e₃ h₁ h₂ h₃ h₄ =
+    let is : ((es₁ ++ es₂) ++ es₃) ++ es₄ ≡ es₁ ++ (es₂ ++ (es₃ ++ es₄)) = simp append-assoc in
+    let l₄ = ap length is in
+    let l₃ = length-append ((es₁ ++ es₂) ++ es₃) es₄ in
+    let l₂ = length-append (es₁ ++ es₂) es₃ in
+    let l₁ = length-append es₁ es₂ in
+    let g₂ = placed-records at q₁ es₁ es₂ b b₁ b₂ (omega arith) e₁ h₁ h₂ in
+    let g₃ = placed-records at q₂ (es₁ ++ es₂) es₃ b b₂ b₃ (omega arith) (omega arith) g₂ h₃ in
+    let g₄ = placed-records at q₃ ((es₁ ++ es₂) ++ es₃) es₄ b b₃ b₄ (omega arith) (omega arith) g₃ h₄ in
+    g₄ ∙ ap (λ (es : List Event). placed at (recordBytes es) b) is
+
+put-ended-requires : tie.Need-put-ended-requires
+put-ended-requires c κs =
+    let start = c .before .before .before .before .before .before in
+    omega (arith, length-eventsOf (start .args .self), start .pre)
+
+put-ended-requires-2 : tie.Need-put-ended-requires-2
+put-ended-requires-2 c κs =
+    let c₁ = c .before .before .before in
+    let start = c₁ .before .before .before .before .before .before .before in
+    omega (arith, length-eventsOf (start .args .self), start .pre, c₁ .put-ended .ensures .0, c₁ .put-ended .kept)
+
+put-ended-requires-3 : tie.Need-put-ended-requires-3
+put-ended-requires-3 c κs =
+    let c₂ = c .before .before .before in
+    let c₁ = c₂ .before .before .before .before in
+    let start = c₁ .before .before .before .before .before .before .before in
+    omega (
+      arith,
+      length-eventsOf (start .args .self),
+      start .pre,
+      c₁ .put-ended .ensures .0,
+      c₁ .put-ended .kept,
+      c₂ .put-ended2 .ensures .0,
+      c₂ .put-ended2 .kept,
+    )
+
+put-ended-requires-4 : tie.Need-put-ended-requires-4
+put-ended-requires-4 c κs =
+    let c₃ = c .before .before .before in
+    let c₂ = c₃ .before .before .before .before in
+    let c₁ = c₂ .before .before .before .before in
+    let start = c₁ .before .before .before .before .before .before .before in
+    omega (
+      arith,
+      length-eventsOf (start .args .self),
+      start .pre,
+      c₁ .put-ended .ensures .0,
+      c₁ .put-ended .kept,
+      c₂ .put-ended2 .ensures .0,
+      c₂ .put-ended2 .kept,
+      c₃ .put-ended3 .ensures .0,
+      c₃ .put-ended3 .kept,
+    )
+
+same-length : tie.Need-same-length
+same-length c = search needs
+
+returns : tie.Need-returns
+returns c =
+    let c₄ = c .before .before in
+    let c₃ = c₄ .before .before .before .before in
+    let c₂ = c₃ .before .before .before .before in
+    let c₁ = c₂ .before .before .before .before in
+    let start = c₁ .before .before .before .before .before .before .before in
+    let a = start .args in
+    let b = a .buffer .now in
+    let dip = listOf (a .self .dip) in
+    let swell = listOf (a .self .swell) in
+    let interruption = listOf (a .self .interruption) in
+    let change = listOf (a .self .change) in
+    four-placed (a .at) _ _ _ dip swell interruption change b _ _ _ _ (start .pre)
+    (c₁ .put-ended .ensures .0) (c₂ .put-ended2 .ensures .0) (c₃ .put-ended3 .ensures .0)
+    (c₁ .put-ended .ensures .1) (c₂ .put-ended2 .ensures .1) (c₃ .put-ended3 .ensures .1) (c₄ .put-ended4 .ensures .1)
+
+pub put-spec : {M : Type 1} → statement M
+put-spec =
+    tie.close
+    (tie.spec
+    put-ended-requires
+    put-ended-requires-2
+    put-ended-requires-3
+    put-ended-requires-4
+    same-length
+    returns)

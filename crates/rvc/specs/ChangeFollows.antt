@@ -1,0 +1,151 @@
+-- What a change in progress carries follows the history: its sum stays, its greatest difference grows by the value that leaves the window, its first
+-- stand by the newest value. What begins with a value is the reading's change there, and what ends is the reading's event.
+use mathlib.Core.Path.{_≡_, refl, sym, _∙_, ap}
+use mathlib.Core.Bool.{Bool, true, false, _&&_, and-true, and-false}
+use mathlib.Core.List.{List, [], _∷_}
+use Prim.Native.Nat.{ℕ, zero, suc, _+_, _-_, _*_, _≤_, _<_, max}
+use native.Mathlib.Omega.{arith}
+use lib.ListN.{length, take, drop, getD, length-drop}
+use lib.Seq.{drop-cons}
+use borrow.Author.Tests.{ltb-true, ltb-false, le-leb, lt-leb}
+use Rattle.settings.specs.declared.Settings.{Settings}
+use Rattle.settings.specs.Notation.{_≤ᵇ_, _<ᵇ_, if_then_else_}
+use Rattle.settings.specs.Settings.{windowLength}
+use Rattle.settings.specs.SettingsLaws.{windowLength-some}
+use Rattle.reading.specs.Values.{since, upTo}
+use Rattle.reading.specs.Changes.{windowSum, gap, firstStand, sumBefore, farthest, greatestDifference, changeEvent}
+use Rattle.window.specs.Window.{windowOf}
+use Rattle.window.specs.WindowFollows.{windowSum-windowOf, oldest-is}
+use Rattle.rvc.specs.Phase.{begun, grown, closing, changeOf, standsFirst}
+
+-- the history before its n newest values, and its values from k on
+upTo-settled : (n : ℕ) (hist : List ℕ) → n ≤ length hist → upTo (length hist - n) hist ≡ drop n hist
+upTo-settled n hist full = let e : length hist - (length hist - n) ≡ n = omega arith in rw e
+
+since-settled : (n k : ℕ) (hist : List ℕ) → n ≤ length hist → since k (upTo (length hist - n) hist) ≡ take (suc (length hist) - (k + n)) (drop n hist)
+since-settled n k hist full =
+    let e : suc (length (drop n hist)) - k ≡ suc (length hist) - (k + n) = omega (arith, length-drop n hist) in
+    ap (since k) (upTo-settled n hist full) ∙ ap (λ (m : ℕ). take m (drop n hist)) e
+
+-- the greatest difference, with a value more: none joins while the change is younger than the window
+farthest-grows : (n k a r : ℕ) (older : List ℕ) → 0 < n → 0 < k →
+    farthest n a (take (suc (suc (length older)) - (k + n)) (drop n (r ∷ older))) ≡
+    (if suc (length older) - k <ᵇ n then farthest n a (take (suc (length older) - (k + n)) (drop n older))
+    else max (gap (n * getD (windowOf n older) 0 0) a) (farthest n a (take (suc (length older) - (k + n)) (drop n older))))
+farthest-grows zero k a r older some late = absurd (omega arith)
+farthest-grows (suc m) k a r older some late = go (suc (length older) - k <ᵇ suc m) refl
+  where
+    rest : ℕ
+    rest = farthest (suc m) a (take (suc (length older) - (k + suc m)) (drop (suc m) older))
+
+    go : (b : Bool) → (suc (length older) - k <ᵇ suc m) ≡ b →
+        farthest (suc m) a (take (suc (suc (length older)) - (k + suc m)) (drop m older)) ≡
+        (if b then rest else max (gap (suc m * getD (windowOf (suc m) older) 0 0) a) rest)
+    go true e =
+        let young : suc (length older) - k < suc m = ltb-true _ _ e in
+        let p : suc (suc (length older)) - (k + suc m) ≡ 0 = omega arith in
+        let q : suc (length older) - (k + suc m) ≡ 0 = omega arith in
+        rw (p, q)
+    go false e =
+        let old : suc m ≤ suc (length older) - k = ltb-false _ _ e in
+        let p : suc (suc (length older)) - (k + suc m) ≡ suc (suc (length older) - (k + suc m)) = omega arith in
+        let d : suc m - 1 ≡ m = omega arith in
+        rw (p, drop-cons older m 0 (omega arith), oldest-is (suc m) older some (omega arith), d)
+
+-- a change since k goes on with a value
+module _ (s : Settings) (k r : ℕ) (older : List ℕ) (late : windowLength s < k) (seen : k ≤ length older) where
+  sum-stays : sumBefore s k (r ∷ older) ≡ sumBefore s k older
+  sum-stays = let e : suc (length older) - (k - 1) ≡ suc (length older - (k - 1)) = omega arith in rw e
+
+  difference-grows : greatestDifference s k (r ∷ older) ≡
+      (if suc (length older) - k <ᵇ windowLength s then greatestDifference s k older
+      else max (gap (windowLength s * getD (windowOf (windowLength s) older) 0 0) (sumBefore s k older)) (greatestDifference s k older))
+  difference-grows =
+      let n : ℕ = windowLength s in
+      let a : ℕ = sumBefore s k older in
+      let before : farthest n a (take (suc (length older) - (k + n)) (drop n older)) ≡ greatestDifference s k older =
+      ap (farthest n a) (sym (since-settled n k older (omega arith))) in
+      (λ j. farthest n (sum-stays j) (since-settled n k (r ∷ older) (omega arith) j))
+      ∙ farthest-grows n k a r older (windowLength-some s) (omega arith)
+      ∙ (λ j. if suc (length older) - k <ᵇ n then before j else max (gap (n * getD (windowOf n older) 0 0) a) (before j))
+
+  stand-grows : firstStand s k (r ∷ older) ≡
+      (if 0 <ᵇ firstStand s k older then firstStand s k older else if standsFirst s (r ∷ older) then suc (length older) else 0)
+  stand-grows = let e : (k ≤ᵇ suc (length older)) ≡ true = le-leb k (suc (length older)) (omega arith) in rw e
+
+  pub change-grows : grown (windowLength s) (suc (length older)) (getD (windowOf (windowLength s) older) 0 0) (standsFirst s (r ∷ older)) (changeOf s k older)
+      ≡ changeOf s k (r ∷ older)
+  change-grows = sym (λ j. record { start = k; sum = sum-stays j; difference = difference-grows j; stand = stand-grows j })
+
+-- none has stood from k on before value k
+stand-none : (s : Settings) (k : ℕ) (hist : List ℕ) → length hist < k → firstStand s k hist ≡ 0
+stand-none s k [] h = refl
+stand-none s k (r ∷ older) h =
+    let e : firstStand s k older ≡ 0 = stand-none s k older (omega arith) in
+    let f : (k ≤ᵇ suc (length older)) ≡ false = lt-leb k (suc (length older)) h in
+    rw (e, f)
+
+-- a change begins with a value
+module _ (s : Settings) (r : ℕ) (older : List ℕ) (full : windowLength s ≤ length older) where
+  pub change-begins : begun (suc (length older)) (windowSum s (windowOf (windowLength s) older)) (standsFirst s (r ∷ older))
+      ≡ changeOf s (suc (length older)) (r ∷ older)
+  change-begins = λ j. record { start = i; sum = sum-is j; difference = difference-is j; stand = stand-is j }
+    where
+      i : ℕ
+      i = suc (length older)
+
+      sum-is : windowSum s (windowOf (windowLength s) older) ≡ sumBefore s i (r ∷ older)
+      sum-is = let e : suc (length older) - (suc (length older) - 1) ≡ 1 = omega arith in windowSum-windowOf s older full ∙ rw e
+
+      difference-is : 0 ≡ greatestDifference s i (r ∷ older)
+      difference-is =
+          let n : ℕ = windowLength s in
+          let e : suc (suc (length older)) - (suc (length older) + n) ≡ 0 = omega (arith, windowLength-some s) in
+          sym (ap (farthest n (sumBefore s i (r ∷ older))) (since-settled n i (r ∷ older) (omega arith) ∙ ap (λ (m : ℕ). take m (drop n (r ∷ older))) e))
+
+      stand-is : (if standsFirst s (r ∷ older) then i else 0) ≡ firstStand s i (r ∷ older)
+      stand-is =
+          let e : firstStand s i older ≡ 0 = stand-none s i older (omega arith) in
+          let f : (i ≤ᵇ i) ≡ true = le-leb i i (omega arith) in
+          rw (e, f)
+
+-- the first stand is at one of the values
+stand-le : (s : Settings) (k : ℕ) (hist : List ℕ) → firstStand s k hist ≤ length hist
+stand-le s k [] = omega arith
+stand-le s k (r ∷ older) = go (0 <ᵇ firstStand s k older) (k ≤ᵇ suc (length older) && standsFirst s (r ∷ older)) (stand-le s k older)
+  where
+    go : (b here : Bool) → firstStand s k older ≤ length older →
+        (if b then firstStand s k older else if here then suc (length older) else 0) ≤ suc (length older)
+    go true here h = omega arith
+    go false true h = omega arith
+    go false false h = omega arith
+
+-- a stand among all but the n newest values is one that is not after them
+stand-settled : (s : Settings) (k n : ℕ) (hist : List ℕ) →
+    (0 <ᵇ firstStand s k (drop n hist)) ≡ (0 <ᵇ firstStand s k hist && firstStand s k hist ≤ᵇ length hist - n)
+stand-settled s k zero hist =
+    let f : ℕ = firstStand s k hist in
+    let h : f ≤ length hist = stand-le s k hist in
+    let e : (f ≤ᵇ length hist - 0) ≡ true = le-leb f (length hist - 0) (omega arith) in
+    rw e (sym (and-true (0 <ᵇ f)))
+stand-settled s k (suc n) [] = refl
+stand-settled s k (suc n) (r ∷ older) =
+    stand-settled s k n older ∙ go (0 <ᵇ firstStand s k older) (k ≤ᵇ i && standsFirst s (r ∷ older)) (firstStand s k older) refl
+  where
+    i : ℕ
+    i = suc (length older)
+
+    first : Bool → Bool → ℕ → ℕ
+    first b here f = if b then f else if here then i else 0
+
+    go : (b here : Bool) (f : ℕ) → (0 <ᵇ f) ≡ b → (b && f ≤ᵇ length older - n) ≡ (0 <ᵇ first b here f && first b here f ≤ᵇ suc (length older) - suc n)
+    go true here f e = let d : suc (length older) - suc n ≡ length older - n = omega arith in rw (d, e)
+    go false true f e =
+        let g : (i ≤ᵇ suc (length older) - suc n) ≡ false = lt-leb i (suc (length older) - suc n) (omega arith) in
+        rw g (sym (and-false (0 <ᵇ i)))
+    go false false f e = refl
+
+-- a change ends
+pub change-ends : (s : Settings) (k : ℕ) (hist : List ℕ) → windowLength s ≤ length hist →
+    closing (windowLength s) (length hist) (windowSum s (windowOf (windowLength s) hist)) (changeOf s k hist) ≡ changeEvent s k hist
+change-ends s k hist full = rw (windowSum-windowOf s hist full, upTo-settled (windowLength s) hist full, stand-settled s k (windowLength s) hist)

@@ -1,0 +1,5 @@
+pub mod Phase
+pub mod ChangeFollows
+pub mod PhaseFollows
+pub mod PhaseValid
+pub mod PhaseStep

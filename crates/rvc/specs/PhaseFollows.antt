@@ -1,0 +1,145 @@
+-- The phase follows the history: stepped by a value it is the phase of the longer history, and the event that ends is the one that the reading has due.
+use mathlib.Core.Path.{_≡_, refl, _∙_, ap}
+use mathlib.Core.Bool.{Bool, true, false}
+use mathlib.Core.List.{List, [], _∷_}
+use Prim.Native.Nat.{ℕ, suc, _+_, _-_, _≤_, _<_}
+use native.Mathlib.Omega.{arith}
+use lib.ListN.{length, getD}
+use borrow.Author.Tests.{ltb-true, ltb-false, le-leb, lt-leb, leb-true, leb-false}
+use Rattle.settings.specs.declared.Settings.{Settings}
+use Rattle.settings.specs.Notation.{_≤ᵇ_, _<ᵇ_, if_then_else_}
+use Rattle.settings.specs.Settings.{windowLength}
+use Rattle.settings.specs.SettingsLaws.{windowLength-some, windowLength-most}
+use Rattle.reading.specs.declared.Event.{Event}
+use Rattle.reading.specs.Changes.{windowSum, calm, Signal, next, signal, changeEvent, changeOver, changeDue}
+use Rattle.reading.specs.Changes.Signal.{filling, unsettled, steady, changing}
+use Rattle.window.specs.Window.{windowOf}
+use Rattle.window.specs.WindowFollows.{window-follows, calm-windowOf}
+use Rattle.rvc.specs.declared.Phase.the-variants.{Filling, Unsettled, Steady, Changing}
+use Rattle.rvc.specs.Phase.{grown, overAt, closing, phaseBy, endedBy, limitIn, phaseAfter, endedAfter, changeOf, phaseOn, phaseOf, standsFirst}
+use Rattle.rvc.specs.ChangeFollows.{change-grows, change-begins, change-ends}
+
+-- the signal knows how many values there are: a change starts after the first window
+abbrev ValidSignal : ℕ → ℕ → Signal → Type 0
+ValidSignal n v filling = v < n
+ValidSignal n v unsettled = n ≤ v
+ValidSignal n v steady = n ≤ v
+ValidSignal n v (changing k) = (n < k) × (k ≤ v)
+
+signal-valid : (s : Settings) (hist : List ℕ) → ValidSignal (windowLength s) (length hist) (signal s hist)
+signal-valid s [] = windowLength-some s
+signal-valid s (r ∷ older) = go (signal s older) (signal-valid s older)
+  where
+    n : ℕ
+    n = windowLength s
+
+    v : ℕ
+    v = length older
+
+    settle : (c : Bool) → n ≤ suc v → ValidSignal n (suc v) (if c then steady else unsettled)
+    settle true h = h
+    settle false h = h
+
+    fill : (b c : Bool) → (suc v <ᵇ n) ≡ b → ValidSignal n (suc v) (if b then filling else if c then steady else unsettled)
+    fill true c e = ltb-true _ _ e
+    fill false c e = settle c (ltb-false _ _ e)
+
+    leave : (c : Bool) → n ≤ v → ValidSignal n (suc v) (if c then steady else changing (suc v))
+    leave true h = omega arith
+    leave false h = (omega arith, omega arith)
+
+    stay : (k : ℕ) (b c : Bool) → (n < k) × (k ≤ v) → ValidSignal n (suc v) (if b then changing k else if c then steady else changing k)
+    stay k true c h = (h .0, omega arith)
+    stay k false true h = omega arith
+    stay k false false h = (h .0, omega arith)
+
+    go : (p : Signal) → ValidSignal n v p → ValidSignal n (suc v) (next s (r ∷ older) p)
+    go filling h = fill (suc v <ᵇ n) (calm s (s .limit) (r ∷ older)) refl
+    go unsettled h = settle (calm s (s .limit) (r ∷ older)) (omega arith)
+    go steady h = leave (calm s (s .limit) (r ∷ older)) h
+    go (changing k) h = stay k (suc v ≤ᵇ k + n) (calm s (s .limit - s .reduction) (r ∷ older)) h
+
+-- i − k ≤ n is i ≤ k + n
+age-is : (i k n : ℕ) → k ≤ i → (i - k ≤ᵇ n) ≡ (i ≤ᵇ k + n)
+age-is i k n h = go (i ≤ᵇ k + n) refl
+  where
+    go : (b : Bool) → (i ≤ᵇ k + n) ≡ b → (i - k ≤ᵇ n) ≡ b
+    go true e = let g : i ≤ k + n = leb-true i (k + n) e in le-leb (i - k) n (omega arith)
+    go false e = let g : k + n < i = leb-false i (k + n) e in lt-leb (i - k) n (omega arith)
+
+module _ (s : Settings) (r : ℕ) (older : List ℕ) where
+  abbrev n : ℕ
+  n = windowLength s
+
+  abbrev i : ℕ
+  i = suc (length older)
+
+  -- the window before value r and after it
+  abbrev w : List ℕ
+  w = windowOf (windowLength s) older
+
+  abbrev w′ : List ℕ
+  w′ = windowOf (windowLength s) (r ∷ older)
+
+  abbrev stands : Bool
+  stands = standsFirst s (r ∷ older)
+
+  over-is : (k : ℕ) → (n < k) × (k ≤ length older) →
+      overAt n i k (calm s (s .limit - s .reduction) w′) ≡ (if i ≤ᵇ k + n then false else calm s (s .limit - s .reduction) (r ∷ older))
+  over-is k h = rw (age-is i k n (omega arith), calm-windowOf s (s .limit - s .reduction) (r ∷ older) (omega arith))
+
+  settles : (c : Bool) → (if c then Steady else Unsettled) ≡ phaseOn s (r ∷ older) (if c then steady else unsettled)
+  settles true = refl
+  settles false = refl
+
+  phase-on : (p : Signal) → ValidSignal n (length older) p →
+      phaseBy n i (getD w 0 0) (windowSum s w) stands (calm s (limitIn s (phaseOn s older p)) w′) (phaseOn s older p)
+      ≡ phaseOn s (r ∷ older) (next s (r ∷ older) p)
+  phase-on filling h = fills (i <ᵇ n) refl
+    where
+      fills : (b : Bool) → (i <ᵇ n) ≡ b → (if b then Filling else if calm s (s .limit) w′ then Steady else Unsettled)
+          ≡ phaseOn s (r ∷ older) (if b then filling else if calm s (s .limit) (r ∷ older) then steady else unsettled)
+      fills true e = refl
+      fills false e = rw (calm-windowOf s (s .limit) (r ∷ older) (ltb-false _ _ e)) (settles (calm s (s .limit) (r ∷ older)))
+  phase-on unsettled h = rw (calm-windowOf s (s .limit) (r ∷ older) (omega arith)) (settles (calm s (s .limit) (r ∷ older)))
+  phase-on steady h = rw (calm-windowOf s (s .limit) (r ∷ older) (omega arith), change-begins s r older h) (leaves (calm s (s .limit) (r ∷ older)))
+    where
+      leaves : (c : Bool) → (if c then Steady else Changing (changeOf s i (r ∷ older))) ≡ phaseOn s (r ∷ older) (if c then steady else changing i)
+      leaves true = refl
+      leaves false = refl
+  phase-on (changing k) h = rw (over-is k h, change-grows s k r older (h .0) (h .1)) (stays (i ≤ᵇ k + n) (calm s (s .limit - s .reduction) (r ∷ older)))
+    where
+      stays : (b c : Bool) → (if (if b then false else c) then Steady else Changing (changeOf s k (r ∷ older)))
+          ≡ phaseOn s (r ∷ older) (if b then changing k else if c then steady else changing k)
+      stays true c = refl
+      stays false true = refl
+      stays false false = refl
+
+  ended-on : (p : Signal) → ValidSignal n (length older) p →
+      endedBy n i (getD w 0 0) (windowSum s w′) stands (calm s (limitIn s (phaseOn s older p)) w′) (phaseOn s older p)
+      ≡ changeOver s (r ∷ older) p (next s (r ∷ older) p)
+  ended-on filling h = refl
+  ended-on unsettled h = refl
+  ended-on steady h = refl
+  ended-on (changing k) h =
+      rw (over-is k h) (ap (λ (e : List Event). if (if i ≤ᵇ k + n then false else calm s (s .limit - s .reduction) (r ∷ older)) then e else []) gives
+      ∙ ends (i ≤ᵇ k + n) (calm s (s .limit - s .reduction) (r ∷ older)))
+    where
+      gives : closing n i (windowSum s w′) (grown n i (getD w 0 0) stands (changeOf s k older)) ≡ changeEvent s k (r ∷ older)
+      gives = ap (closing n i (windowSum s w′)) (change-grows s k r older (h .0) (h .1)) ∙ change-ends s k (r ∷ older) (omega arith)
+
+      ends : (b c : Bool) → (if (if b then false else c) then changeEvent s k (r ∷ older) else [])
+          ≡ changeOver s (r ∷ older) (changing k) (if b then changing k else if c then steady else changing k)
+      ends true c = refl
+      ends false true = refl
+      ends false false = refl
+
+pub phase-follows : (s : Settings) (r : ℕ) (older : List ℕ) →
+    phaseAfter s (length older) (windowOf (windowLength s) older) r (standsFirst s (r ∷ older)) (phaseOf s older) ≡ phaseOf s (r ∷ older)
+phase-follows s r older =
+    rw (window-follows (windowLength s) r older (windowLength-some s) (windowLength-most s)) (phase-on s r older (signal s older) (signal-valid s older))
+
+pub ended-follows : (s : Settings) (r : ℕ) (older : List ℕ) →
+    endedAfter s (length older) (windowOf (windowLength s) older) r (standsFirst s (r ∷ older)) (phaseOf s older) ≡ changeDue s (r ∷ older)
+ended-follows s r older =
+    rw (window-follows (windowLength s) r older (windowLength-some s) (windowLength-most s)) (ended-on s r older (signal s older) (signal-valid s older))

@@ -1,0 +1,20 @@
+-- The window's step, and what a history leaves in it. The window has 120 places, of which the first N at most are used, oldest first.
+use mathlib.Core.List.{List, _∷_, _++_, reverse}
+use Prim.Native.Nat.{ℕ, _-_}
+use lib.ListN.{length, take, drop, set, replicate, getD}
+use Rattle.settings.specs.Notation.{_<ᵇ_, if_then_else_}
+
+-- value r after v values, n of them kept
+abbrev pub pushed : ℕ → ℕ → List ℕ → ℕ → List ℕ
+pushed n v w r = if v <ᵇ n then set w v r else take (n - 1) (drop 1 w) ++ (r ∷ drop n w)
+
+-- the values that stay with it in the window of n; and the one that leaves, 0 where none does
+abbrev pub staying : ℕ → ℕ → List ℕ → List ℕ
+staying n v w = take (n - 1) (drop (if v <ᵇ n then 0 else 1) w)
+
+abbrev pub leaving : ℕ → ℕ → List ℕ → ℕ
+leaving n v w = if v <ᵇ n then 0 else getD w 0 0
+
+-- what a history leaves
+abbrev pub windowOf : ℕ → List ℕ → List ℕ
+windowOf n hist = let kept = reverse (take n hist) in kept ++ replicate (120 - length kept) 0

@@ -1,0 +1,167 @@
+-- What refusal 11 allows of a window is kept by the step, and so holds of what a history leaves; and the sum of such a window, from value to value.
+use mathlib.Core.Path.{_≡_, refl, sym, _∙_, ap, subst}
+use mathlib.Core.Bool.{Bool, true, false}
+use mathlib.Core.List.{List, [], _∷_, _++_}
+use Prim.Native.Nat.{ℕ, zero, suc, _+_, _-_, _*_, min, _≤_, _<_}
+use native.Mathlib.Omega.{arith}
+use lib.ListN.{length, take, drop, set, replicate, getD, take-append-drop, length-append, length-drop, length-set, length-replicate}
+use lib.Seq.{getD-set-same, getD-set-other, getD-append-add, getD-drop, length-take-le}
+use borrow.Author.Tests.{eqb-true, eqb-false, ltb-true, ltb-false}
+use Rattle.settings.specs.Notation.{_<ᵇ_, _≡ᵇ_, if_then_else_}
+use Rattle.reading.specs.Changes.{sum}
+use Rattle.window.specs.Window.{pushed, leaving, windowOf}
+use Rattle.window.specs.WindowLaws.{sum-append}
+use Rattle.window.specs.WindowFollows.{windowOf-none, window-follows}
+
+-- no value is above 524,288
+abbrev pub Small : List ℕ → Type 0
+Small l = (i : ℕ) → getD l i 0 ≤ 524288
+
+-- the window of n after v values: 120 places, values that are small, and 0 in each place that is not used
+pub record ValidWindow (n v : ℕ) (w : List ℕ) : Type 0 where
+  pub size : length w ≡ 120
+  pub most : (i : ℕ) → getD w i 0 ≤ 524288
+  pub unused : (i : ℕ) → min v n ≤ i → getD w i 0 ≡ 0
+
+-- parts of small lists are small
+small-append : (xs ys : List ℕ) → Small xs → Small ys → Small (xs ++ ys)
+small-append [] ys p q i = q i
+small-append (x ∷ xs) ys p q zero = p zero
+small-append (x ∷ xs) ys p q (suc i) = small-append xs ys (λ j. p (suc j)) q i
+
+small-take : (n : ℕ) (l : List ℕ) → Small l → Small (take n l)
+small-take zero l p i = omega arith
+small-take (suc n) [] p i = omega arith
+small-take (suc n) (x ∷ l) p zero = p zero
+small-take (suc n) (x ∷ l) p (suc i) = small-take n l (λ j. p (suc j)) i
+
+small-drop : (n : ℕ) (l : List ℕ) → Small l → Small (drop n l)
+small-drop n l p i = rw (getD-drop n l i 0) (p (n + i))
+
+small-cons : (r : ℕ) (l : List ℕ) → r ≤ 524288 → Small l → Small (r ∷ l)
+small-cons r l h p zero = h
+small-cons r l h p (suc i) = p i
+
+-- a value more, while places are free
+filling-valid : (n v r : ℕ) (w : List ℕ) → n ≤ 120 → v < n → r ≤ 524288 → ValidWindow n v w → ValidWindow n (suc v) (set w v r)
+filling-valid n v r w fits few small valid =
+    record {
+      size = length-set w v r ∙ valid .size;
+      most = λ i. at-most i (i ≡ᵇ v) refl;
+      unused = λ i h. getD-set-other w v i r 0 (omega arith) ∙ valid .unused i (omega arith);
+    }
+  where
+    at-most : (i : ℕ) (b : Bool) → (i ≡ᵇ v) ≡ b → getD (set w v r) i 0 ≤ 524288
+    at-most i true e =
+        let q : i ≡ v = eqb-true i v e in
+        let z : length w ≡ 120 = valid .size in
+        rw (q, getD-set-same w v r 0 (omega arith)) small
+    at-most i false e = rw (getD-set-other w v i r 0 (eqb-false i v e)) (valid .most i)
+
+-- and once all are used
+full-valid : (m v r : ℕ) (w : List ℕ) → suc m ≤ 120 → suc m ≤ v → r ≤ 524288 → ValidWindow (suc m) v w →
+    ValidWindow (suc m) (suc v) (take (suc m - 1) (drop 1 w) ++ (r ∷ drop (suc m) w))
+full-valid m v r w fits full small valid =
+    let d : suc m - 1 ≡ m = omega arith in
+    rw d (record { size = size; most = most; unused = unused })
+  where
+    stay : length (take m (drop 1 w)) ≡ m
+    stay =
+        let z : length w ≡ 120 = valid .size in
+        length-take-le m (drop 1 w) (simp length-drop (omega arith))
+
+    size : length (take m (drop 1 w) ++ (r ∷ drop (suc m) w)) ≡ 120
+    size =
+        let z : length w ≡ 120 = valid .size in
+        simp (length-append, length-drop, stay) (omega arith)
+
+    most : Small (take m (drop 1 w) ++ (r ∷ drop (suc m) w))
+    most =
+        small-append (take m (drop 1 w)) (r ∷ drop (suc m) w) (small-take m (drop 1 w) (small-drop 1 w (valid .most)))
+        (small-cons r (drop (suc m) w) small (small-drop (suc m) w (valid .most)))
+
+    unused : (i : ℕ) → min (suc v) (suc m) ≤ i → getD (take m (drop 1 w) ++ (r ∷ drop (suc m) w)) i 0 ≡ 0
+    unused i h =
+        let e : i ≡ length (take m (drop 1 w)) + suc (i - suc m) = omega (arith, stay) in
+        rw e
+        (getD-append-add (take m (drop 1 w)) (r ∷ drop (suc m) w) (suc (i - suc m)) 0
+        ∙ getD-drop (suc m) w (i - suc m) 0
+        ∙ valid .unused (suc m + (i - suc m)) (omega arith))
+
+pub pushed-valid : (n v r : ℕ) (w : List ℕ) → 0 < n → n ≤ 120 → r ≤ 524288 → ValidWindow n v w → ValidWindow n (suc v) (pushed n v w r)
+pushed-valid zero v r w some fits small valid = absurd (omega arith)
+pushed-valid (suc m) v r w some fits small valid = go (v <ᵇ suc m) refl
+  where
+    go : (b : Bool) → (v <ᵇ suc m) ≡ b → ValidWindow (suc m) (suc v) (if b then set w v r else take (suc m - 1) (drop 1 w) ++ (r ∷ drop (suc m) w))
+    go true e = filling-valid (suc m) v r w fits (ltb-true v (suc m) e) small valid
+    go false e = full-valid m v r w fits (ltb-false v (suc m) e) small valid
+
+-- what a history leaves is valid
+zeros : (n i : ℕ) → getD {A = ℕ} (replicate n 0) i 0 ≡ 0
+zeros zero i = refl
+zeros (suc n) zero = refl
+zeros (suc n) (suc i) = zeros n i
+
+pub windowOf-valid : (n : ℕ) (hist : List ℕ) → 0 < n → n ≤ 120 → Small hist → ValidWindow n (length hist) (windowOf n hist)
+windowOf-valid n [] some fits small =
+    let none : ValidWindow n 0 (replicate 120 0) =
+    record { size = length-replicate {A = ℕ} 120 0; most = λ i. omega (arith, zeros 120 i); unused = λ i h. zeros 120 i } in
+    rw (windowOf-none n) none
+windowOf-valid n (r ∷ older) some fits small =
+    subst (ValidWindow n (suc (length older))) (window-follows n r older some fits)
+    (pushed-valid n (length older) r (windowOf n older) some fits (small 0) (windowOf-valid n older some fits (λ i. small (suc i))))
+
+-- the sum of the window, and of all places
+sum-small : (l : List ℕ) → Small l → sum l ≤ length l * 524288
+sum-small [] p = omega arith
+sum-small (x ∷ l) p = omega (arith, p zero, sum-small l (λ j. p (suc j)))
+
+pub sum-le : (n v : ℕ) (w : List ℕ) → n ≤ 120 → ValidWindow n v w → sum (take n w) ≤ n * 524288
+sum-le n v w fits valid =
+    let z : length w ≡ 120 = valid .size in
+    let e : length (take n w) ≡ n = length-take-le n w (omega arith) in
+    rw e at (sum-small (take n w) (small-take n w (valid .most)))
+
+sum-zeros : (l : List ℕ) → ((i : ℕ) → getD l i 0 ≡ 0) → sum l ≡ 0
+sum-zeros [] p = refl
+sum-zeros (x ∷ l) p = omega (arith, p zero, sum-zeros l (λ j. p (suc j)))
+
+sum-split : (n : ℕ) (l : List ℕ) → sum l ≡ sum (take n l) + sum (drop n l)
+sum-split n l = ap sum (sym (take-append-drop n l)) ∙ sum-append (take n l) (drop n l)
+
+pub sum-all : (n v : ℕ) (w : List ℕ) → ValidWindow n v w → sum (take n w) ≡ sum w
+sum-all n v w valid =
+    let rest : sum (drop n w) ≡ 0 = sum-zeros (drop n w) (λ i. getD-drop n w i 0 ∙ valid .unused (n + i) (omega arith)) in
+    omega (arith, sum-split n w)
+
+-- the sum from value to value: the new value comes, and the one that leaves goes
+sum-set : (w : List ℕ) (i r : ℕ) → i < length w → sum (set w i r) + getD w i 0 ≡ sum w + r
+sum-set [] i r h = absurd (omega arith)
+sum-set (x ∷ w) zero r h = omega arith
+sum-set (x ∷ w) (suc i) r h = omega (arith, sum-set w i r (omega arith))
+
+sum-shifted : (m r : ℕ) (w : List ℕ) → 0 < length w → sum (take m (drop 1 w) ++ (r ∷ drop (suc m) w)) + getD w 0 0 ≡ sum w + r
+sum-shifted m r [] h = absurd (omega arith)
+sum-shifted m r (x ∷ w) h = omega (arith, sum-append (take m w) (r ∷ drop m w), sum-split m w)
+
+pub sum-pushed : (n v r : ℕ) (w : List ℕ) → 0 < n → n ≤ 120 → ValidWindow n v w → sum (pushed n v w r) + leaving n v w ≡ sum w + r
+sum-pushed zero v r w some fits valid = absurd (omega arith)
+sum-pushed (suc m) v r w some fits valid = go (v <ᵇ suc m) refl
+  where
+    go : (b : Bool) → (v <ᵇ suc m) ≡ b →
+        sum (if b then set w v r else take (suc m - 1) (drop 1 w) ++ (r ∷ drop (suc m) w)) + (if b then 0 else getD w 0 0) ≡ sum w + r
+    go true e =
+        let few : v < suc m = ltb-true v (suc m) e in
+        let z : length w ≡ 120 = valid .size in
+        omega (arith, sum-set w v r (omega arith), valid .unused v (omega arith))
+    go false e =
+        let d : suc m - 1 ≡ m = omega arith in
+        let z : length w ≡ 120 = valid .size in
+        rw d (sum-shifted m r w (omega arith))
+
+pub leaving-le : (n v : ℕ) (w : List ℕ) → ValidWindow n v w → leaving n v w ≤ 524288
+leaving-le n v w valid = go (v <ᵇ n)
+  where
+    go : (b : Bool) → (if b then 0 else getD w 0 0) ≤ 524288
+    go true = omega arith
+    go false = valid .most 0
