@@ -8,7 +8,7 @@ use Rattle.settings.specs.Notation.{_≡ᵇ_}
 use Rattle.reading.specs.declared.Kind.{Kind}
 use Rattle.reading.specs.declared.Kind.the-variants.{Dip, Swell, Interruption}
 use Rattle.reading.specs.declared.Event.{Event}
-use Rattle.reading.specs.Thresholds.{begins, ends, code}
+use Rattle.reading.specs.Thresholds.{begins, ends, kindNumber}
 use Rattle.threshold.specs.declared.Standing.{Standing}
 use Rattle.threshold.specs.Standing.{noEvent, stepped, endedAt, standingOf}
 use Rattle.rvc.specs.declared.Phase.the-variants.{Filling}
@@ -45,9 +45,9 @@ dueAt s r d w =
     let i = suc (d .count) in
     let dip = stepOf s Dip i r (d .dip) in
     let swell = stepOf s Swell i r (d .swell) in
-    endedAt (code Dip) i (d .dip) dip
-    ++ (endedAt (code Swell) i (d .swell) swell
-    ++ (endedAt (code Interruption) i (d .interruption) (stepOf s Interruption i r (d .interruption))
+    endedAt (kindNumber Dip) i (d .dip) dip
+    ++ (endedAt (kindNumber Swell) i (d .swell) swell
+    ++ (endedAt (kindNumber Interruption) i (d .interruption) (stepOf s Interruption i r (d .interruption))
     ++ endedAfter s (d .count) w r (standsAt i dip swell) (d .phase)))
 
 -- what a history leaves

@@ -11,7 +11,7 @@ use Rattle.settings.specs.Settings.{windowLength}
 use Rattle.settings.specs.SettingsLaws.{windowLength-some, windowLength-most}
 use Rattle.reading.specs.declared.Kind.the-variants.{Dip, Swell, Interruption}
 use Rattle.reading.specs.declared.Event.{Event}
-use Rattle.reading.specs.Thresholds.{begins, ends, code}
+use Rattle.reading.specs.Thresholds.{begins, ends, kindNumber}
 use Rattle.threshold.specs.declared.Standing.{Standing}
 use Rattle.threshold.specs.Standing.{endedAt}
 use Rattle.threshold.specs.StandingValid.{ValidStanding, noEvent-valid, stepped-valid}
@@ -55,18 +55,18 @@ module _ (s : Settings) where
       let dip = stepOf s Dip i r (d .dip) in
       let swell = stepOf s Swell i r (d .swell) in
       let interruption = stepOf s Interruption i r (d .interruption) in
-      let a = endedAt (code Dip) i (d .dip) dip in
-      let b = endedAt (code Swell) i (d .swell) swell in
-      let c = endedAt (code Interruption) i (d .interruption) interruption in
+      let a = endedAt (kindNumber Dip) i (d .dip) dip in
+      let b = endedAt (kindNumber Swell) i (d .swell) swell in
+      let c = endedAt (kindNumber Interruption) i (d .interruption) interruption in
       let e = endedAfter s (d .count) w r (standsAt i dip swell) (d .phase) in
       omega (
         arith,
         length-append a (b ++ (c ++ e)),
         length-append b (c ++ e),
         length-append c e,
-        ended-most (code Dip) i (d .dip) dip,
-        ended-most (code Swell) i (d .swell) swell,
-        ended-most (code Interruption) i (d .interruption) interruption,
+        ended-most (kindNumber Dip) i (d .dip) dip,
+        ended-most (kindNumber Swell) i (d .swell) swell,
+        ended-most (kindNumber Interruption) i (d .interruption) interruption,
         ended-one s (d .count) w r (standsAt i dip swell) (d .phase),
       )
 

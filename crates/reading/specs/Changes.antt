@@ -11,6 +11,7 @@ use Rattle.reading.specs.declared.Event.{Event}
 use Rattle.reading.specs.Values.{since, upTo}
 use Rattle.reading.specs.Thresholds.{standsSince}
 
+-- the sum of values
 abbrev pub sum : List ℕ → ℕ
 sum [] = 0
 sum (x ∷ xs) = x + sum xs
@@ -30,7 +31,7 @@ within n a limit r = 10000 * gap (n * r) a ≤ᵇ limit
 abbrev pub calm : Settings → ℕ → List ℕ → Bool
 calm s t hist = let n = windowLength s in all (within n (windowSum s hist) (t * n * s .declared)) (take n hist)
 
--- the steady signal with what must be kept of it: fewer than N values; never yet true; true; false since value k, when it was last true
+-- the steady signal with what must be kept of it: fewer than N values; never yet true; true; false since value k, and true at k − 1
 pub data Signal : Type 0 where
   filling : Signal
   unsettled : Signal
@@ -48,6 +49,7 @@ next s hist (changing k) =
     else if calm s (s .limit - s .reduction) hist then steady
     else changing k
 
+-- the signal of a history
 abbrev pub signal : Settings → List ℕ → Signal
 signal s [] = filling
 signal s (r ∷ older) = next s (r ∷ older) (signal s older)
@@ -70,16 +72,16 @@ abbrev pub farthest : ℕ → ℕ → List ℕ → ℕ
 farthest n a [] = 0
 farthest n a (r ∷ rs) = max (gap (n * r) a) (farthest n a rs)
 
--- the greatest |N × r(j) − A(k − 1)| for j from k to V − N
+-- the greatest |N × r(j) − A(k − 1)| for j from k to V − N, 0 if there is none
 abbrev pub greatestDifference : Settings → ℕ → List ℕ → ℕ
 greatestDifference s k hist = let n = windowLength s in farthest n (sumBefore s k hist) (since k (upTo (length hist - n) hist))
 
 -- the record of a change that runs from k to the newest value, 01's m; none if a dip or a swell first stands at k to m − N
 abbrev pub changeEvent : Settings → ℕ → List ℕ → List Event
 changeEvent s k hist =
-    let settled = length hist - windowLength s in
-    let e : Event = record { kind = 4; start = k; duration = settled - k; first = greatestDifference s k hist; second = gap (windowSum s hist) (sumBefore s k hist) } in
-    if 0 <ᵇ firstStand s k (upTo settled hist) then [] else e ∷ []
+    let last = length hist - windowLength s in
+    let e : Event = record { kind = 4; start = k; duration = last - k; first = greatestDifference s k hist; second = gap (windowSum s hist) (sumBefore s k hist) } in
+    if 0 <ᵇ firstStand s k (upTo last hist) then [] else e ∷ []
 
 -- due at the newest value: the change in progress before it, where the signal is true again
 abbrev pub changeOver : Settings → List ℕ → Signal → Signal → List Event

@@ -55,6 +55,7 @@ pub record Desk : Type 0 where
   pub recording : List ℤ
   pub copies : List (List ℤ)
 
+-- at first: no sample, and no save
 abbrev pub emptyDesk : Desk
 emptyDesk = record { recording = []; copies = [] }
 
@@ -62,7 +63,7 @@ emptyDesk = record { recording = []; copies = [] }
 abbrev pub room : List ℕ → ℕ
 room lent = length lent / 20
 
--- the answer to a call
+-- the answer to a call. A restore that names a save is accepted
 abbrev pub answer : Settings → Desk → Call → Answer
 answer s d (feed block lent) =
     let n = taken s (d .recording) block (room lent) in
@@ -73,7 +74,7 @@ answer s d (save lent) = if length lent <ᵇ 620 then saved 7 lent else saved 0 
 answer s d (restoreSave j) = restored 0
 answer s d (restoreRefused bytes) = restored (restoreRefusal bytes)
 
--- what is kept after it
+-- what is kept after it: a restore that names a save sets the recording back, a refused call changes nothing
 abbrev pub after : Settings → Desk → Call → Desk
 after s d (feed block lent) = record { recording = d .recording ++ take (taken s (d .recording) block (room lent)) block; copies = d .copies }
 after s d look = d
@@ -81,11 +82,12 @@ after s d (save lent) = if length lent <ᵇ 620 then d else record { recording =
 after s d (restoreSave j) = record { recording = getD (d .copies) j []; copies = d .copies }
 after s d (restoreRefused bytes) = d
 
--- over a list of calls
+-- the answers to a list of calls
 abbrev pub answers : Settings → Desk → List Call → List Answer
 answers s d [] = []
 answers s d (c ∷ cs) = answer s d c ∷ answers s (after s d c) cs
 
+-- what is kept after a list of calls
 abbrev pub deskAfter : Settings → Desk → List Call → Desk
 deskAfter s d [] = d
 deskAfter s d (c ∷ cs) = deskAfter s (after s d c) cs

@@ -23,10 +23,11 @@ dueAfter s rec v (suc c) = dueAfter s rec v c ++ due s (history s rec (v + suc c
 abbrev pub completed : Settings → List ℤ → List ℤ → ℕ → List Event
 completed s rec block n = let longer = rec ++ take n block in dueAfter s longer (valueCount s rec) (valueCount s longer - valueCount s rec)
 
--- the first n samples keep V within its end; and their records fit the room
+-- the first n samples of a block keep V within its end
 abbrev pub withinEnd : Settings → List ℤ → List ℤ → ℕ → Bool
 withinEnd s rec block n = valueCount s (rec ++ take n block) ≤ᵇ lastValue
 
+-- and their records fit the room
 abbrev pub allowed : Settings → List ℤ → List ℤ → ℕ → ℕ → Bool
 allowed s rec block room n = withinEnd s rec block n && length (completed s rec block n) ≤ᵇ room
 
@@ -35,7 +36,7 @@ abbrev pub greatestTo : (ℕ → Bool) → ℕ → ℕ
 greatestTo test zero = zero
 greatestTo test (suc n) = elim (test (suc n)) [ true ↦ suc n | false ↦ greatestTo test n ]
 
--- samples taken: the greatest number that is allowed (`taken-allowed` and `taken-greatest` in the laws)
+-- samples taken: the greatest number that is allowed (`taken-fits` and `taken-most` of reading_laws)
 abbrev pub taken : Settings → List ℤ → List ℤ → ℕ → ℕ
 taken s rec block room = greatestTo (allowed s rec block room) (length block)
 

@@ -15,22 +15,24 @@ use Rattle.reading.specs.Thresholds.{standsSince, magnitude}
 use Rattle.reading.specs.Changes.{Signal, signal, sumBefore, greatestDifference, firstStand}
 use Rattle.reading.specs.Changes.Signal.{filling, unsettled, steady, changing}
 
--- the table of contents: code, offset and length of each body
+-- an entry of the table of contents: code, offset and length of a body
 abbrev pub entry : ℕ → ℕ → ℕ → List ℕ
-entry number offset size = bytesOf 4 number ++ (bytesOf 2 offset ++ bytesOf 2 size)
+entry code offset size = bytesOf 4 code ++ (bytesOf 2 offset ++ bytesOf 2 size)
 
 abbrev pub table : List ℕ
 table = entry 1 32 36 ++ (entry 2 68 24 ++ (entry 3 92 484 ++ entry 4 576 44))
 
+-- 1 for yes, 0 for no
 abbrev pub flag : Bool → ℕ
 flag true = 1
 flag false = 0
 
--- body 2: of the half-cycle in progress the count and the sum; the last whole half-cycle's sum, 0 without one; whether there is one
+-- the sum of the last of h whole half-cycles, 0 without one
 abbrev pub lastSum : Settings → List ℤ → ℕ → ℕ
 lastSum s rec zero = 0
 lastSum s rec (suc h) = energy s rec (suc h)
 
+-- body 2: count and sum of the half-cycle in progress, the last whole one's sum, whether there is one
 abbrev pub gathererBytes : Settings → List ℤ → List ℕ
 gathererBytes s rec =
     let whole = halves s rec in
@@ -42,31 +44,34 @@ valuesBytes s hist =
     let kept = reverse (take (windowLength s) hist) in
     bytesOf 4 (length hist) ++ words (kept ++ replicate (120 - length kept) 0)
 
--- body 4: the phase's number and, in a change, k, A(k − 1), the greatest difference, the first value at which a dip or swell first stands
+-- the phase's number: 0 fewer than N values, 1 never yet steady, 2 steady, 3 in a change
 abbrev pub phaseNumber : Signal → ℕ
 phaseNumber filling = 0
 phaseNumber unsettled = 1
 phaseNumber steady = 2
 phaseNumber (changing k) = 3
 
+-- of a change k, A(k − 1), the greatest difference, the first value at which a dip or swell first stands; 0 outside a change
 abbrev pub changeNumbers : Settings → List ℕ → Signal → List ℕ
 changeNumbers s hist filling = 0 ∷ 0 ∷ 0 ∷ 0 ∷ []
 changeNumbers s hist unsettled = 0 ∷ 0 ∷ 0 ∷ 0 ∷ []
 changeNumbers s hist steady = 0 ∷ 0 ∷ 0 ∷ 0 ∷ []
 changeNumbers s hist (changing k) = k ∷ sumBefore s k hist ∷ greatestDifference s k hist ∷ firstStand s k hist ∷ []
 
--- then start and magnitude so far of the dip, the swell and the interruption, 0 and 0 where none stands
+-- start and magnitude so far of an event, 0 and 0 where none stands
 abbrev pub standingNumbers : Settings → Kind → List ℕ → List ℕ
-standingNumbers s k hist =
-    let a = standsSince s k hist in
-    let so-far = magnitude k (since a hist) in
+standingNumbers s kind hist =
+    let a = standsSince s kind hist in
+    let so-far = magnitude kind (since a hist) in
     if a ≡ᵇ 0 then 0 ∷ 0 ∷ [] else a ∷ so-far ∷ []
 
+-- body 4: the phase, what a change carries, and the dip, the swell and the interruption
 abbrev pub eventsBytes : Settings → List ℕ → List ℕ
 eventsBytes s hist =
     let now = signal s hist in
     words (phaseNumber now ∷ (changeNumbers s hist now ++ (standingNumbers s Dip hist ++ (standingNumbers s Swell hist ++ standingNumbers s Interruption hist))))
 
+-- the image: the table, the settings and the three other bodies
 abbrev pub imageOf : Settings → List ℤ → List ℕ
 imageOf s rec =
     let hist = values s rec in

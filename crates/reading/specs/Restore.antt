@@ -9,15 +9,18 @@ use Rattle.settings.specs.Notation.{_≤ᵇ_, _<ᵇ_, _≡ᵇ_, if_then_else_, 
 use Rattle.settings.specs.Settings.{windowLength, settingsOf, startRefusal}
 use Rattle.reading.specs.Image.{table}
 
+-- the bytes of a section
 abbrev pub part : ℕ → ℕ → List ℕ → List ℕ
 part offset size bytes = take size (drop offset bytes)
 
+-- whether two lists of bytes are the same
 abbrev pub sameBytes : List ℕ → List ℕ → Bool
 sameBytes [] [] = true
 sameBytes [] (y ∷ ys) = false
 sameBytes (x ∷ xs) [] = false
 sameBytes (x ∷ xs) (y ∷ ys) = x ≡ᵇ y && sameBytes xs ys
 
+-- where a holds, b does
 abbrev pub implies : Bool → Bool → Bool
 implies a b = not a || b
 
@@ -32,7 +35,7 @@ gathererGood s v body =
     && (last ≤ᵇ s .samples * 2 ^ 30
     && (mark ≤ᵇ 1 && implies (mark ≡ᵇ 0) (last ≡ᵇ 0 && v ≡ᵇ 0))))
 
--- body 3: values ≤ 524,288 and unused places 0
+-- body 3: values ≤ 524,288, and 0 in the unused places, those after the first min(V, N)
 unfoldable pub valuesGood : Settings → List ℕ → Bool
 valuesGood s body =
     let v = numberAt 0 4 body in
@@ -51,7 +54,7 @@ changeGood n v body =
     && (difference ≤ᵇ n * 524288
     && (implies (v <ᵇ k + n) (difference ≡ᵇ 0) && (stand ≡ᵇ 0 || k ≤ᵇ stand && stand ≤ᵇ v)))))
 
--- an event: its start 0 to V, its magnitude ≤ 524,288; both 0 where none stands
+-- an event: its start 0 to V, its magnitude ≤ 524,288, and 0 where the start is 0
 unfoldable pub standingGood : ℕ → ℕ → List ℕ → Bool
 standingGood v offset body =
     let start = numberAt offset 4 body in

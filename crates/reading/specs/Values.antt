@@ -16,10 +16,11 @@ abbrev pub Samples : List ℤ → Type 0
 Samples [] = Unit {0}
 Samples (x ∷ xs) = Sample x × Samples xs
 
--- the sum of squares of samples
+-- the square of a sample
 abbrev pub square : ℤ → ℕ
 square x = natAbs x * natAbs x
 
+-- the sum of squares of samples
 abbrev pub squares : List ℤ → ℕ
 squares [] = 0
 squares (x ∷ xs) = square x + squares xs
@@ -28,16 +29,16 @@ squares (x ∷ xs) = square x + squares xs
 abbrev pub energy : Settings → List ℤ → ℕ → ℕ
 energy s rec h = squares (take (s .samples) (drop ((h - 1) * s .samples) rec))
 
--- the greatest number whose square is at most n, from the root of the quarter, down to zero. The first argument bounds how often, and n is
--- often enough for n: `root-is` in the laws says that this is the root
+-- the root of a number is found from the root of its quarter, down to zero. The first argument bounds how often, and n is often enough for n
 abbrev pub rootBy : ℕ → ℕ → ℕ
 rootBy zero n = 0
 rootBy (suc k) n = elim (n ≡ᵇ 0) [ true ↦ 0 | false ↦ let q = 2 * rootBy k (n / 4) in if (q + 1) * (q + 1) ≤ᵇ n then q + 1 else q ]
 
+-- the greatest number whose square is at most n: `root-greatest` of reading_laws
 unfoldable pub root : ℕ → ℕ
 root n = rootBy n n
 
--- the greatest r with r² × 2 × M ≤ 256 × (a + b): `rms-is` in the laws
+-- the greatest r with r² × 2 × M ≤ 256 × (a + b): `value-greatest` of reading_laws
 abbrev pub rms : ℕ → ℕ → ℕ → ℕ
 rms m a b = root (256 * (a + b) / (2 * m))
 
@@ -45,24 +46,27 @@ rms m a b = root (256 * (a + b) / (2 * m))
 abbrev pub value : Settings → List ℤ → ℕ → ℕ
 value s rec i = rms (s .samples) (energy s rec i) (energy s rec (i + 1))
 
--- the whole half-cycles; V, since r(i) exists once half-cycle i + 1 is whole
+-- the whole half-cycles
 abbrev pub halves : Settings → List ℤ → ℕ
 halves s rec = length rec / s .samples
 
+-- V: r(i) exists once half-cycle i + 1 is whole. (V's end is kept by feed.)
 abbrev pub valueCount : Settings → List ℤ → ℕ
 valueCount s rec = halves s rec - 1
 
--- r(i) back to r(1); all values of a recording
+-- r(i) back to r(1)
 abbrev pub history : Settings → List ℤ → ℕ → List ℕ
 history s rec zero = []
 history s rec (suc i) = value s rec (suc i) ∷ history s rec i
 
+-- all values of a recording
 abbrev pub values : Settings → List ℤ → List ℕ
 values s rec = history s rec (valueCount s rec)
 
--- of a history: its values from value a on; the history as it stood after value i
+-- the values of a history from value a on
 abbrev pub since : ℕ → List ℕ → List ℕ
 since a hist = take (suc (length hist) - a) hist
 
+-- a history as it stood after value i
 abbrev pub upTo : ℕ → List ℕ → List ℕ
 upTo i hist = drop (length hist - i) hist

@@ -59,7 +59,7 @@ levelsGood s = 1 ≤ᵇ s .interruption && (s .interruption ≤ᵇ 20000 && (s .
 unfoldable pub orderGood : Settings → Bool
 orderGood s = s .interruption + s .hysteresis ≤ᵇ s .dip && s .dip + 2 * s .hysteresis <ᵇ s .swell
 
--- start's refusals: the lowest number that applies, 0 where none does
+-- start's refusals 2 to 6: the lowest number that applies, 0 where none does
 unfoldable pub settingsRefusal : Settings → ℕ
 settingsRefusal s =
     refuse 2 unless samplesGood s then
@@ -69,6 +69,7 @@ settingsRefusal s =
     refuse 6 unless levelsGood s && orderGood s then
     0
 
+-- with the length: 36 bytes
 unfoldable pub startRefusal : List ℕ → ℕ
 startRefusal b = refuse 1 unless length b ≡ᵇ 36 then settingsRefusal (settingsOf b)
 

@@ -13,7 +13,7 @@ use Rattle.reading.specs.declared.Kind.{Kind}
 use Rattle.reading.specs.declared.Kind.the-variants.{Dip, Swell, Interruption}
 use Rattle.reading.specs.declared.Event.{Event}
 use Rattle.reading.specs.Values.{since}
-use Rattle.reading.specs.Thresholds.{begins, ends, standsSince, magnitude, code, thresholdDue}
+use Rattle.reading.specs.Thresholds.{begins, ends, standsSince, magnitude, kindNumber, thresholdDue}
 use Rattle.threshold.specs.declared.Standing.{Standing}
 use Rattle.threshold.specs.Standing.{thresholdOf, beginsAt, endsAt, worse, stepped, endedAt, magnitudeSince, standingOf}
 
@@ -83,11 +83,11 @@ follows s k r older = go (begins s k r) (ends s k r) (standsSince s k older) (st
     go false false (suc a) h = rw eqb·suc-zero (ap (λ (x : ℕ). record { start = suc a; magnitude = x }) (sym (goes-on k r older (suc a) (omega arith) h)))
 
 pub ended-follows : (s : Settings) (k : Kind) (r : ℕ) (older : List ℕ) →
-    endedAt (code k) (suc (length older)) (standingOf s k older) (standingOf s k (r ∷ older)) ≡ thresholdDue s k (r ∷ older)
+    endedAt (kindNumber k) (suc (length older)) (standingOf s k older) (standingOf s k (r ∷ older)) ≡ thresholdDue s k (r ∷ older)
 ended-follows s k r older = go (standsSince s k older) (standsSince s k (r ∷ older) ≡ᵇ 0)
   where
     made : ℕ → ℕ → Event
-    made a x = record { kind = code k; start = a; duration = suc (length older) - a; first = x; second = 0 }
+    made a x = record { kind = kindNumber k; start = a; duration = suc (length older) - a; first = x; second = 0 }
 
     go : (a : ℕ) (z : Bool) → (if 0 <ᵇ a && z then made a (magnitudeSince k a older) ∷ [] else []) ≡ (if 0 <ᵇ a && z then made a (magnitude k (since a older)) ∷ [] else [])
     go zero z = refl
