@@ -143,6 +143,7 @@ settingsRead-settingsBytes s v =
 -- what an answer tells
 module _ (b : List ℕ) where
   pub record Accepted (s : Settings) : Type 0 where
+    pub none : startRefusal b ≡ 0
     pub long : length b ≡ 36
     pub settings-are : s ≡ settingsOf b
     pub valid : ValidSettings s
@@ -155,7 +156,7 @@ module _ (b : List ℕ) where
       go zero p q =
           let r = refuse-none 1 (length b ≡ᵇ 36) (settingsRefusal (settingsOf b)) (omega arith) p in
           let same : settingsOf b ≡ s = cc in
-          record { long = eqb-true _ _ (r .0); settings-are = sym same; valid = refusal-valid s (ap settingsRefusal (sym same) ∙ r .1) }
+          record { none = p; long = eqb-true _ _ (r .0); settings-are = sym same; valid = refusal-valid s (ap settingsRefusal (sym same) ∙ r .1) }
       go (suc n) p q = let z : _≡_ {A = ℕ} 0 1 = cc in absurd (omega arith)
 
   -- bytes → settings → bytes
