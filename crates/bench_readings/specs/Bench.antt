@@ -1,15 +1,19 @@
 -- 01, "Bench readings", and the example of "The event program".
 use mathlib.Core.Path.{_≡_}
 use mathlib.Core.Bool.{true, false}
-use mathlib.Core.List.{List, [], _∷_, _++_}
-use Prim.Native.Nat.{ℕ, _*_}
-use lib.ListN.{length, replicate}
+use mathlib.Core.List.{List, [], _∷_, _++_, map}
+use Prim.Native.Nat.{ℕ, zero, suc, _+_, _*_, _^_}
+use lib.ListN.{length, take, replicate}
+use lib.Seq.{sets}
 use lib.IntN.{ℤ, pos, negsuc}
+use Rattle.octets.specs.Bytes.{bytesOf}
 use Rattle.settings.specs.declared.Settings.{Settings}
 use Rattle.settings.specs.Settings.{settingsRefusal}
 use Rattle.reading.specs.declared.Event.{Event}
 use Rattle.reading.specs.Values.{values}
 use Rattle.reading.specs.Records.{events, recordBytes}
+use Rattle.reading.specs.Image.{imageOf}
+use Rattle.reading.specs.Restore.{restoreRefusal}
 use Rattle.reading.specs.Feed.{taken, why}
 use Rattle.reading.specs.Engineer.{readings}
 
@@ -34,6 +38,11 @@ q = qWith 8 300
 abbrev pub all : ℕ → ℕ → List ℤ
 all n x = replicate n (pos x)
 
+-- bytes, n times
+abbrev pub times : ℕ → List ℕ → List ℕ
+times zero bytes = []
+times (suc n) bytes = bytes ++ times n bytes
+
 -- the program's samples; 150 half-cycles of 100, then 103 of 96; 89 until a dip stands, then x
 abbrev pub program : List ℤ
 program = all 24 100 ++ (all 16 50 ++ all 24 100)
@@ -43,6 +52,50 @@ change = all (150 * 8) 100 ++ all (103 * 8) 96
 
 abbrev pub dipThen : ℕ → List ℤ
 dipThen x = all 16 89 ++ all 16 x
+
+-- 150 half-cycles of 100, two of 80 and three samples more: a change in progress since value 150, and a dip since 151
+abbrev pub changing : List ℤ
+changing = all (150 * 8) 100 ++ all 19 80
+
+-- its image, byte by byte: the table; the settings; the gatherer; V and the window; the phase, the change and the three events
+abbrev pub changingImage : List ℕ
+changingImage =
+    1 ∷ 0 ∷ 0 ∷ 0 ∷ 32 ∷ 0 ∷ 36 ∷ 0 ∷ 2 ∷ 0 ∷ 0 ∷ 0 ∷ 68 ∷ 0 ∷ 24 ∷ 0 ∷ 3 ∷ 0 ∷ 0 ∷ 0 ∷ 92 ∷ 0 ∷ 228 ∷ 1 ∷ 4 ∷ 0 ∷ 0 ∷ 0 ∷ 64 ∷ 2 ∷ 44 ∷ 0
+    ∷ 8 ∷ 0 ∷ 0 ∷ 0 ∷ 50 ∷ 0 ∷ 0 ∷ 0 ∷ 64 ∷ 6 ∷ 0 ∷ 0 ∷ 44 ∷ 1 ∷ 0 ∷ 0 ∷ 150 ∷ 0 ∷ 0 ∷ 0 ∷ 244 ∷ 1 ∷ 0 ∷ 0 ∷ 40 ∷ 35 ∷ 0 ∷ 0 ∷ 248 ∷ 42 ∷ 0 ∷ 0 ∷ 200 ∷ 0 ∷ 0 ∷ 0
+    ∷ 3 ∷ 0 ∷ 0 ∷ 0 ∷ 0 ∷ 75 ∷ 0 ∷ 0 ∷ 0 ∷ 0 ∷ 0 ∷ 0 ∷ 0 ∷ 200 ∷ 0 ∷ 0 ∷ 0 ∷ 0 ∷ 0 ∷ 0 ∷ 1 ∷ 0 ∷ 0 ∷ 0
+    ∷ 151 ∷ 0 ∷ 0 ∷ 0 ∷ (times 98 (64 ∷ 6 ∷ 0 ∷ 0 ∷ []) ++ (168 ∷ 5 ∷ 0 ∷ 0 ∷ 0 ∷ 5 ∷ 0 ∷ 0 ∷ (replicate 80 0
+    ++ (3 ∷ 0 ∷ 0 ∷ 0 ∷ 150 ∷ 0 ∷ 0 ∷ 0 ∷ 0 ∷ 113 ∷ 2 ∷ 0 ∷ 0 ∷ 0 ∷ 0 ∷ 0 ∷ 151 ∷ 0 ∷ 0 ∷ 0
+    ∷ 151 ∷ 0 ∷ 0 ∷ 0 ∷ 0 ∷ 5 ∷ 0 ∷ 0 ∷ replicate 16 0))))
+
+-- that image with a number of w bytes at an offset; each is one rule away from it
+abbrev pub changed : ℕ → ℕ → ℕ → List ℕ
+changed offset w x = sets changingImage offset (bytesOf w x)
+
+abbrev pub refusals : List (List ℕ) → List ℕ
+refusals images = map restoreRefusal images
+
+-- the settings: M 7, F 51, U 15, T 601, H 300, I 0, W 20,001, I + G above D, D + 2 × G at W; and the nearest that are accepted
+abbrev pub settingsOut : List (List ℕ)
+settingsOut = changed 32 4 7 ∷ changed 36 4 51 ∷ changed 40 4 15 ∷ changed 44 4 601 ∷ changed 48 4 300 ∷ changed 52 4 0 ∷ changed 60 4 20001 ∷ changed 52 4 8801 ∷ changed 60 4 9400 ∷ []
+
+abbrev pub settingsIn : List (List ℕ)
+settingsIn = changed 32 4 9 ∷ changed 36 4 60 ∷ changed 40 4 16 ∷ changed 44 4 600 ∷ changed 48 4 299 ∷ changed 52 4 1 ∷ changed 60 4 20000 ∷ changed 52 4 8800 ∷ changed 60 4 9401 ∷ []
+
+-- the bodies: count, sum, last sum, mark, no half with V; a value, an unused place; phase 4, phase 0 with V ≥ N, a change outside phase 3; k at N, k above V,
+-- A(k − 1), a difference with V < k + N, a stand before k, one after V; a start above V, a magnitude, a magnitude of none
+abbrev pub bodiesOut : List (List ℕ)
+bodiesOut =
+    changed 68 4 8 ∷ changed 72 8 (3 * 2 ^ 30 + 1) ∷ changed 80 8 (8 * 2 ^ 30 + 1) ∷ changed 88 4 2 ∷ changed 88 4 0
+    ∷ changed 96 4 524289 ∷ changed 496 4 1
+    ∷ changed 576 4 4 ∷ changed 576 4 0 ∷ changed 576 4 2 ∷ changed 580 4 100 ∷ changed 580 4 152 ∷ changed 584 4 52428801 ∷ changed 588 4 1 ∷ changed 592 4 149 ∷ changed 592 4 152
+    ∷ changed 596 4 152 ∷ changed 600 4 524289 ∷ changed 608 4 1 ∷ []
+
+abbrev pub bodiesIn : List (List ℕ)
+bodiesIn =
+    changed 68 4 7 ∷ changed 72 8 (3 * 2 ^ 30) ∷ changed 80 8 (8 * 2 ^ 30) ∷ changed 88 4 1
+    ∷ changed 96 4 524288 ∷ changed 492 4 0
+    ∷ changed 580 4 101 ∷ changed 580 4 151 ∷ changed 584 4 52428800 ∷ changed 588 4 0 ∷ changed 592 4 150 ∷ changed 592 4 0
+    ∷ changed 596 4 150 ∷ changed 600 4 524288 ∷ changed 600 4 0 ∷ []
 
 abbrev pub recordsOf : Settings → List ℤ → List Event
 recordsOf s rec = events s (values s rec)
@@ -80,3 +133,12 @@ pub record BenchReadings : Type 0 where
   pub program-count : length (values q program) ≡ 7
   pub program-taken : taken q [] program 0 ≡ 55
   pub program-why : why q [] program 55 ≡ 1
+  -- a whole image in a change with a dip standing, byte by byte; what restore refuses one rule away from it, and what it accepts beside that
+  pub changing-image : imageOf q changing ≡ changingImage
+  pub changing-accepted : restoreRefusal changingImage ≡ 0
+  pub lengths-refused : refusals ([] ∷ take 619 changingImage ∷ (changingImage ++ (0 ∷ [])) ∷ []) ≡ 8 ∷ 8 ∷ 8 ∷ []
+  pub table-refused : refusals (changed 0 4 2 ∷ changed 4 2 33 ∷ changed 30 2 45 ∷ []) ≡ 9 ∷ 9 ∷ 9 ∷ []
+  pub settings-refused : refusals settingsOut ≡ replicate 9 10
+  pub settings-accepted : refusals settingsIn ≡ replicate 9 0
+  pub bodies-refused : refusals bodiesOut ≡ replicate 19 11
+  pub bodies-accepted : refusals bodiesIn ≡ replicate 15 0

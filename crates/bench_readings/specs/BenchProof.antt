@@ -2,10 +2,12 @@
 use mathlib.Core.Path.{_≡_, refl}
 use mathlib.Core.List.{[], _∷_, _++_}
 use Prim.Native.Nat.{_*_}
-use lib.ListN.{length}
-use Rattle.settings.specs.Settings.{settingsRefusal, samplesGood, frequencyGood, declaredGood, limitGood, levelsGood, orderGood}
+use lib.ListN.{length, take, replicate}
+use Rattle.settings.specs.Settings.{startRefusal, settingsRefusal, samplesGood, frequencyGood, declaredGood, limitGood, levelsGood, orderGood}
 use Rattle.reading.specs.Values.{root, values}
-use Rattle.bench_readings.specs.Bench.{BenchReadings, q, qWith, all, change, recordsOf}
+use Rattle.reading.specs.Image.{imageOf}
+use Rattle.reading.specs.Restore.{restoreRefusal, gathererGood, valuesGood, changeGood, standingGood, eventsGood}
+use Rattle.bench_readings.specs.Bench.{BenchReadings, q, qWith, all, change, changing, changingImage, changed, refusals, settingsOut, settingsIn, bodiesOut, bodiesIn, recordsOf}
 
 q-is-accepted : settingsRefusal q ≡ 0
 unfolding settingsRefusal samplesGood frequencyGood declaredGood limitGood levelsGood orderGood
@@ -31,6 +33,39 @@ change-is-at-393 = refl
 none-is-at-394 : recordsOf (qWith 8 394) change ≡ []
 unfolding root
 none-is-at-394 = refl
+
+changing-image-is : imageOf q changing ≡ changingImage
+unfolding root
+changing-image-is = refl
+
+-- the refusals, with every test opened
+changing-is-accepted : restoreRefusal changingImage ≡ 0
+unfolding restoreRefusal startRefusal settingsRefusal samplesGood frequencyGood declaredGood limitGood levelsGood orderGood gathererGood valuesGood changeGood standingGood eventsGood
+changing-is-accepted = refl
+
+lengths-are-refused : refusals ([] ∷ take 619 changingImage ∷ (changingImage ++ (0 ∷ [])) ∷ []) ≡ 8 ∷ 8 ∷ 8 ∷ []
+unfolding restoreRefusal startRefusal settingsRefusal samplesGood frequencyGood declaredGood limitGood levelsGood orderGood gathererGood valuesGood changeGood standingGood eventsGood
+lengths-are-refused = refl
+
+table-is-refused : refusals (changed 0 4 2 ∷ changed 4 2 33 ∷ changed 30 2 45 ∷ []) ≡ 9 ∷ 9 ∷ 9 ∷ []
+unfolding restoreRefusal startRefusal settingsRefusal samplesGood frequencyGood declaredGood limitGood levelsGood orderGood gathererGood valuesGood changeGood standingGood eventsGood
+table-is-refused = refl
+
+settings-are-refused : refusals settingsOut ≡ replicate 9 10
+unfolding restoreRefusal startRefusal settingsRefusal samplesGood frequencyGood declaredGood limitGood levelsGood orderGood gathererGood valuesGood changeGood standingGood eventsGood
+settings-are-refused = refl
+
+settings-are-accepted : refusals settingsIn ≡ replicate 9 0
+unfolding restoreRefusal startRefusal settingsRefusal samplesGood frequencyGood declaredGood limitGood levelsGood orderGood gathererGood valuesGood changeGood standingGood eventsGood
+settings-are-accepted = refl
+
+bodies-are-refused : refusals bodiesOut ≡ replicate 19 11
+unfolding restoreRefusal startRefusal settingsRefusal samplesGood frequencyGood declaredGood limitGood levelsGood orderGood gathererGood valuesGood changeGood standingGood eventsGood
+bodies-are-refused = refl
+
+bodies-are-accepted : refusals bodiesIn ≡ replicate 15 0
+unfolding restoreRefusal startRefusal settingsRefusal samplesGood frequencyGood declaredGood limitGood levelsGood orderGood gathererGood valuesGood changeGood standingGood eventsGood
+bodies-are-accepted = refl
 
 pub bench-holds : BenchReadings
 unfolding root
@@ -60,4 +95,12 @@ bench-holds = record {
   program-count = refl;
   program-taken = refl;
   program-why = refl;
+  changing-image = changing-image-is;
+  changing-accepted = changing-is-accepted;
+  lengths-refused = lengths-are-refused;
+  table-refused = table-is-refused;
+  settings-refused = settings-are-refused;
+  settings-accepted = settings-are-accepted;
+  bodies-refused = bodies-are-refused;
+  bodies-accepted = bodies-are-accepted;
 }
