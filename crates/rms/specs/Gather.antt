@@ -1,7 +1,7 @@
 -- The gatherer's steps, and the gatherer that a recording leaves. 01: count and sum of the half in progress, sum of the last whole half.
 use mathlib.Core.Bool.{true, false, _&&_}
 use mathlib.Core.List.{List, [], _∷_, _++_}
-use Prim.Native.Nat.{ℕ, _+_, _-_, _*_, _%_}
+use Prim.Native.Nat.{ℕ, _+_, _-_, _*_, _%_, _^_, _≤_, _<_}
 use lib.ListN.{length, drop}
 use lib.IntN.{ℤ}
 use Rattle.settings.specs.declared.Settings.{Settings}
@@ -10,6 +10,7 @@ use Rattle.reading.specs.Values.{square, squares, rms, halves}
 use Rattle.reading.specs.Image.{lastSum}
 use Rattle.rms.specs.declared.Gatherer.{Gatherer}
 use Rattle.rms.specs.declared.Share.{Share}
+use Rattle.rms.specs.declared.Gathered.{Gathered}
 
 abbrev pub noSample : Gatherer
 noSample = record { count = 0; sum = 0; last = 0; whole = false }
@@ -27,6 +28,13 @@ gathered m g n e = if g .count + n ≡ᵇ m then withHalf g e else withPart g n 
 
 unfoldable pub out : ℕ → Gatherer → ℕ → ℕ → List ℕ
 out m g n e = if g .count + n ≡ᵇ m && g .whole then rms m (g .last) (g .sum + e) ∷ [] else []
+
+-- one sample more, and whether it completes the half-cycle; what this asks, so that nothing wraps
+abbrev pub gatheredSample : ℕ → Gatherer → ℤ → Gathered
+gatheredSample m g x = record { gatherer = gathered m g 1 (square x); completed = g .count + 1 ≡ᵇ m }
+
+abbrev pub Ready : ℕ → Gatherer → Type 0
+Ready m g = (g .count < m) × (m ≤ 256) × (g .sum ≤ g .count * 2 ^ 30)
 
 -- a part of a block within the half-cycle
 abbrev pub gatheredPart : ℕ → Gatherer → List ℤ → Gatherer

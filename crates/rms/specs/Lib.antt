@@ -1,3 +1,4 @@
 pub mod Gather
 pub mod GatherLaws
 pub mod GatherFollows
+pub mod GatherSamples

@@ -3,7 +3,7 @@ ghost use mathlib.Core.Path.{_≡_};
 ghost use Prim.Native.Nat.{_+_, _*_, _/_, _^_, _≤_, _<_};
 ghost use lib.ListN.{length};
 ghost use Rattle.reading.specs.Values.{square as squareOf, squares, root as rootOf, rms};
-ghost use Rattle.rms.specs.Gather.{noSample, withPart, withHalf, shareOf};
+ghost use Rattle.rms.specs.Gather.{noSample, withPart, withHalf, shareOf, Ready, gatheredSample};
 
 // The square of a sample.
 pub fn square(sample: i16) -> u32
@@ -76,6 +76,12 @@ pub struct Share {
     pub completes: bool,
 }
 
+// What one sample more gives: the gatherer, and whether the sample completed a half-cycle.
+pub struct Gathered {
+    pub gatherer: Gatherer,
+    pub completed: bool,
+}
+
 impl Gatherer {
     pub fn new() -> Gatherer
         ensures { λ r. ⌜ r ≡ noSample ⌝ }
@@ -130,5 +136,47 @@ impl Gatherer {
             last: self.sum + squares,
             whole: true,
         }
+    }
+
+    // With one sample more.
+    pub fn with_sample(self, samples: u32, sample: i16) -> Gathered
+        requires { ⌜ Ready samples self ⌝ }
+        ensures { λ r. ⌜ r ≡ gatheredSample samples self sample ⌝ }
+    {
+        let square = square(sample) as u64;
+        if self.count + 1 == samples {
+            return Gathered {
+                gatherer: self.with_half(square),
+                completed: true,
+            };
+        }
+        Gathered {
+            gatherer: self.with_part(1, square),
+            completed: false,
+        }
+    }
+}
+
+// The gatherer is lent to a sample and updated. What comes back is whether the sample completed a half-cycle.
+pub fn gather(gatherer: &mut Gatherer, samples: u32, sample: i16) -> bool
+    requires { ⌜ Ready samples (now gatherer) ⌝ }
+    ensures { λ r. ⌜ (now (gatherer .exit) ≡ gatheredSample samples (now (gatherer .entry)) sample .gatherer)
+        × (r ≡ gatheredSample samples (now (gatherer .entry)) sample .completed) ⌝ }
+{
+    let gathered = gatherer.with_sample(samples, sample);
+    *gatherer = gathered.gatherer;
+    gathered.completed
+}
+
+// The same by value: a copy is lent to the sample.
+pub fn gathered_with(gatherer: Gatherer, samples: u32, sample: i16) -> Gathered
+    requires { ⌜ Ready samples gatherer ⌝ }
+    ensures { λ r. ⌜ r ≡ gatheredSample samples gatherer sample ⌝ }
+{
+    let mut held = gatherer;
+    let completed = gather(&mut held, samples, sample);
+    Gathered {
+        gatherer: held,
+        completed,
     }
 }

@@ -1,0 +1,54 @@
+-- `check::same` tells whether the bytes are the constant's, which is the table; so its answer is the reading's test.
+use mathlib.Core.Path.{_≡_, refl, sym, _∙_, ap, ap₂}
+use mathlib.Core.Bool.{Bool, true, false}
+use mathlib.Core.List.{List, [], _∷_}
+use Prim.Native.Nat.{ℕ}
+use native.Mathlib.Omega.{arith}
+use borrow.Author.Needs.{needs}
+use borrow.Author.Tests.{eq-eqb, eqb-true}
+use Rattle.settings.specs.Notation.{_≡ᵇ_}
+use Rattle.settings.specs.NotationLaws.{and-true, and-left, and-right}
+use Rattle.reading.specs.Image.{table}
+use Rattle.reading.specs.Restore.{sameBytes}
+use Rattle.bodies.specs.Bodies.{verdictOf, tableAnswer}
+use Rattle.bodies.proofs.read_table.Statement.{statement}
+use Rattle.bodies.proofs.read_table.Tie as tie
+
+-- the reading's test holds of equal bytes only, and of all that are equal
+same-equal : (xs ys : List ℕ) → sameBytes xs ys ≡ true → xs ≡ ys
+same-equal [] [] e = refl
+same-equal [] (y ∷ ys) e = let z : _≡_ {A = ℕ} 0 1 = cc in absurd (omega arith)
+same-equal (x ∷ xs) [] e = let z : _≡_ {A = ℕ} 0 1 = cc in absurd (omega arith)
+same-equal (x ∷ xs) (y ∷ ys) e = ap₂ _∷_ (eqb-true x y (and-left (x ≡ᵇ y) (sameBytes xs ys) e)) (same-equal xs ys (and-right (x ≡ᵇ y) (sameBytes xs ys) e))
+
+same-itself : (xs : List ℕ) → sameBytes xs xs ≡ true
+same-itself [] = refl
+same-itself (x ∷ xs) = and-true (eq-eqb x x refl) (same-itself xs)
+
+-- an answer that is true of equal bytes only, and of all that are equal, is the reading's test
+answer-same : (xs ys : List ℕ) (r : Bool) → (r ≡ true → xs ≡ ys) → (xs ≡ ys → r ≡ true) → r ≡ sameBytes xs ys
+answer-same xs ys true f g = sym (ap (λ (l : List ℕ). sameBytes l ys) (f refl) ∙ same-itself ys)
+answer-same xs ys false f g = go (sameBytes xs ys) refl
+  where
+    go : (t : Bool) → sameBytes xs ys ≡ t → false ≡ t
+    go true e = g (same-equal xs ys e)
+    go false e = refl
+
+answered : (c : tie.After-same) → verdictOf (c .same .result) ≡ tableAnswer (c .before .before .before .args .part .now)
+unfolding tableAnswer
+answered c = ap verdictOf (answer-same (c .before .before .before .args .part .now) table (c .same .result) (c .same .ensures .0) (c .same .ensures .1))
+
+slice-aggregate-same : tie.Need-slice-aggregate-same
+slice-aggregate-same c = search needs
+
+same-requires : tie.Need-same-requires
+same-requires c κs = search needs
+
+returns : tie.Need-returns
+returns c = ap verdictOf (sym (c .if1 .taken)) ∙ answered (c .before)
+
+returns-2 : tie.Need-returns-2
+returns-2 c = ap verdictOf (sym (c .if1 .left)) ∙ answered (c .before)
+
+pub read-table-spec : {M : Type 1} → statement M
+read-table-spec = tie.close (tie.spec slice-aggregate-same same-requires returns returns-2)

@@ -1,0 +1,254 @@
+-- Demand 3, proved. What the caller keeps is read from what the engineer keeps (`callerOf`); each call keeps it so and gives the engineer's answer; and so,
+-- call by call, over every list.
+use mathlib.Core.Path.{_≡_, refl, sym, _∙_, ap, subst}
+use mathlib.Core.Bool.{Bool, true, false}
+use mathlib.Core.List.{List, [], _∷_, _++_, map}
+use Prim.Native.Nat.{ℕ, zero, suc, _*_, _<_}
+use native.Mathlib.Omega.{arith}
+use lib.ListN.{length, take, drop, getD, length-append}
+use lib.Seq.{take-at}
+use lib.IntN.{ℤ}
+use Rattle.settings.specs.declared.Settings.{Settings}
+use Rattle.settings.specs.declared.SettingsRead.{SettingsRead}
+use Rattle.settings.specs.declared.SettingsRead.the-variants as settings-read
+use Rattle.settings.specs.Notation.{_<ᵇ_, _≡ᵇ_, if_then_else_}
+use Rattle.settings.specs.Settings.{settingsOf, startRefusal, answerOf, settingsRead}
+use Rattle.settings.specs.SettingsLaws.{ValidSettings, read-accepted, refused-refusal}
+use Rattle.reading.specs.Values.{Samples, valueCount, history, values}
+use Rattle.reading.specs.Records.{recordBytes, events}
+use Rattle.reading.specs.Image.{imageOf}
+use Rattle.reading.specs.Restore.{restoreRefusal}
+use Rattle.reading.specs.Feed.{completed, taken}
+use Rattle.reading.specs.Engineer.{Call, Desk, over, room, emptyDesk, answer, after, answers, deskAfter, WellFormed}
+use Rattle.reading.specs.Engineer.Call.{feed, look, save, restoreSave, restoreRefused}
+use Rattle.reading.specs.Engineer.Answer.{fed, looked, saved, restored}
+use Rattle.reading_laws.specs.Completed.{events-completed}
+use Rattle.records.specs.DueLaws.{length-recordBytes, recordBytes-append}
+use Rattle.image.specs.declared.State.{State}
+use Rattle.image.specs.Image.{imageBytes, saveAnswer, savedBytes, restoredBy}
+use Rattle.image.specs.ImageLaws.{length-imageBytes, restoredBy-saved, restoredBy-refused}
+use Rattle.greedy.specs.GreedyFollows.{Recording, fedBy-follows, recording-fed}
+use Rattle.machine.specs.Step.{fresh, machine, stateOf}
+use Rattle.machine.specs.StepFollows.{steps-of, fresh-is, readings-of, image-of-state, halves-none}
+use Rattle.machine.specs.StepValid.{stateOf-valid, recording-none}
+use Rattle.handover.specs.Claim.{Caller, loggerAnswer, callerAfter, loggerAnswers, callerAfterAll, freshCaller, Agree, Kept, Demand3}
+use Rattle.handover.specs.TheCalls.{numberOfAnswer, startedFrom, loggerCalls}
+
+-- lists of copies
+abbrev pub Recordings : Settings → List (List ℤ) → Type 0
+Recordings s [] = Unit {0}
+Recordings s (r ∷ rs) = Recording s r × Recordings s rs
+
+recordings-snoc : (s : Settings) (rs : List (List ℤ)) (r : List ℤ) → Recordings s rs → Recording s r → Recordings s (rs ++ (r ∷ []))
+recordings-snoc s [] r p q = (q, tt)
+recordings-snoc s (x ∷ rs) r p q = (p .0, recordings-snoc s rs r (p .1) q)
+
+recordings-at : (s : Settings) (rs : List (List ℤ)) (j : ℕ) → Recordings s rs → j < length rs → Recording s (getD rs j [])
+recordings-at s [] j p h = absurd (omega arith)
+recordings-at s (r ∷ rs) zero p h = p .0
+recordings-at s (r ∷ rs) (suc j) p h = recordings-at s rs j (p .1) (omega arith)
+
+map-snoc : {A B : Type 0} (f : A → B) (xs : List A) (x : A) → map f xs ++ (f x ∷ []) ≡ map f (xs ++ (x ∷ []))
+map-snoc f [] x = refl
+map-snoc f (y ∷ xs) x = ap (λ z. f y ∷ z) (map-snoc f xs x)
+
+getD-map : {A B : Type 0} (f : A → B) (xs : List A) (j : ℕ) (a : A) (b : B) → j < length xs → getD (map f xs) j b ≡ f (getD xs j a)
+getD-map f [] j a b h = absurd (omega arith)
+getD-map f (x ∷ xs) zero a b h = refl
+getD-map f (x ∷ xs) (suc j) a b h = getD-map f xs j a b (omega arith)
+
+-- the bytes written at the front of a buffer
+take-over : (n : ℕ) (bytes lent : List ℕ) → length bytes ≡ n → take n (over bytes lent) ≡ bytes
+take-over n bytes lent l = take-at bytes (drop (length bytes) lent) n l
+
+module _ (s : Settings) (valid : ValidSettings s) where
+  some : 0 < s .samples
+  some = omega (arith, valid .samples-least)
+
+  -- the records of a recording
+  abbrev recordsOf : List ℤ → List ℕ
+  recordsOf rec = recordBytes (events s (values s rec))
+
+  -- what the caller keeps, read from what the engineer keeps
+  abbrev callerOf : Desk → Caller State
+  callerOf d = record {
+    logger = stateOf s (d .recording);
+    images = map (imageOf s) (d .copies);
+    written = recordsOf (d .recording);
+    writtenAt = map recordsOf (d .copies);
+  }
+
+  pub record DeskOk (d : Desk) : Type 0 where
+    pub recording-ok : Recording s (d .recording)
+    pub copies-ok : Recordings s (d .copies)
+
+  -- one call: the same answer, and the caller still keeps what is read from the desk
+  pub record Step (d : Desk) (c : Call) : Type 0 where
+    pub same-answer : loggerAnswer loggerCalls (callerOf d) c ≡ answer s d c
+    pub same-kept : callerAfter loggerCalls (callerOf d) c ≡ callerOf (after s d c)
+    pub ok : DeskOk (after s d c)
+
+  module _ (d : Desk) (ok : DeskOk d) where
+    abbrev rec : List ℤ
+    rec = d .recording
+
+    abbrev copies : List (List ℤ)
+    copies = d .copies
+
+    feed-step : (block : List ℤ) (lent : List ℕ) → Samples block → Step d (feed block lent)
+    feed-step block lent are =
+        let F = fedBy-follows s some machine (stateOf s) (steps-of s some) block rec (room lent) in
+        let n = taken s rec block (room lent) in
+        let es = completed s rec block n in
+        let grown : recordsOf rec ++ take (20 * length es) (over (recordBytes es) lent) ≡ recordsOf (rec ++ take n block) =
+        ap (λ (bytes : List ℕ). recordsOf rec ++ bytes) (take-over (20 * length es) (recordBytes es) lent (length-recordBytes es))
+        ∙ sym (ap recordBytes (events-completed s some rec block n) ∙ recordBytes-append (events s (values s rec)) es) in
+        record {
+          same-answer = λ i. fed (F i .count) (length (F i .records)) (F i .reason) (over (recordBytes (F i .records)) lent);
+          same-kept =
+              (λ i. record {
+                logger = F i .after;
+                images = map (imageOf s) copies;
+                written = recordsOf rec ++ take (20 * length (F i .records)) (over (recordBytes (F i .records)) lent);
+                writtenAt = map recordsOf copies;
+              })
+              ∙ (λ i. record { logger = stateOf s (rec ++ take n block); images = map (imageOf s) copies; written = grown i; writtenAt = map recordsOf copies });
+          ok = record { recording-ok = recording-fed s some rec block (room lent) (ok .recording-ok) are; copies-ok = ok .copies-ok };
+        }
+
+    look-step : Step d look
+    look-step = record { same-answer = ap looked (readings-of s rec); same-kept = refl; ok = ok }
+
+    image-first : (lent : List ℕ) → take 620 (over (imageBytes (stateOf s rec)) lent) ≡ imageOf s rec
+    image-first lent =
+        let v = stateOf-valid s rec valid (ok .recording-ok) in
+        take-over 620 (imageBytes (stateOf s rec)) lent (length-imageBytes (stateOf s rec) (v .window-valid .size)) ∙ image-of-state s rec
+
+    save-step : (lent : List ℕ) → Step d (save lent)
+    unfolding saveAnswer savedBytes
+    save-step lent = record { same-answer = answered short; same-kept = kept short; ok = kept-ok short }
+      where
+        short : Bool
+        short = length lent <ᵇ 620
+
+        answered : (b : Bool) →
+            saved (if b then 7 else 0) (if b then lent else over (imageBytes (stateOf s rec)) lent) ≡ (if b then saved 7 lent else saved 0 (over (imageOf s rec) lent))
+        answered true = refl
+        answered false = ap (λ (image : List ℕ). saved 0 (over image lent)) (image-of-state s rec)
+
+        deskWith : Bool → Desk
+        deskWith b = if b then d else record { recording = rec; copies = copies ++ (rec ∷ []) }
+
+        images-with : map (imageOf s) copies ++ (take 620 (over (imageBytes (stateOf s rec)) lent) ∷ []) ≡ map (imageOf s) (copies ++ (rec ∷ []))
+        images-with = ap (λ (image : List ℕ). map (imageOf s) copies ++ (image ∷ [])) (image-first lent) ∙ map-snoc (imageOf s) copies rec
+
+        kept : (b : Bool) →
+            (if (if b then 7 else 0) ≡ᵇ 0
+            then record {
+              logger = stateOf s rec;
+              images = map (imageOf s) copies ++ (take 620 (if b then lent else over (imageBytes (stateOf s rec)) lent) ∷ []);
+              written = recordsOf rec;
+              writtenAt = map recordsOf copies ++ (recordsOf rec ∷ []);
+            }
+            else callerOf d)
+            ≡ callerOf (if b then d else record { recording = rec; copies = copies ++ (rec ∷ []) })
+        kept true = refl
+        kept false = λ i. record { logger = stateOf s rec; images = images-with i; written = recordsOf rec; writtenAt = map-snoc recordsOf copies rec i }
+
+        kept-ok : (b : Bool) → DeskOk (if b then d else record { recording = rec; copies = copies ++ (rec ∷ []) })
+        kept-ok true = ok
+        kept-ok false = record { recording-ok = ok .recording-ok; copies-ok = recordings-snoc s copies rec (ok .copies-ok) (ok .recording-ok) }
+
+    restore-step : (j : ℕ) → j < length copies → Step d (restoreSave j)
+    restore-step j h =
+        let back = getD copies j [] in
+        let back-ok = recordings-at s copies j (ok .copies-ok) h in
+        let P = ap (restoredBy (stateOf s rec)) (getD-map (imageOf s) copies j [] [] h ∙ sym (image-of-state s back))
+        ∙ restoredBy-saved (stateOf s back) (stateOf-valid s back valid back-ok) (stateOf s rec) in
+        record {
+          same-answer = λ i. restored (numberOfAnswer (P i .answer));
+          same-kept =
+              (λ i. record {
+                logger = P i .state;
+                images = map (imageOf s) copies;
+                written = if numberOfAnswer (P i .answer) ≡ᵇ 0 then getD (map recordsOf copies) j [] else recordsOf rec;
+                writtenAt = map recordsOf copies;
+              })
+              ∙ (λ i. record { logger = stateOf s back; images = map (imageOf s) copies; written = getD-map recordsOf copies j [] [] h i; writtenAt = map recordsOf copies });
+          ok = record { recording-ok = back-ok; copies-ok = ok .copies-ok };
+        }
+
+    refuse-step : (bytes : List ℕ) → (restoreRefusal bytes ≡ 0 → ⊥) → Step d (restoreRefused bytes)
+    refuse-step bytes h =
+        let P = restoredBy-refused (stateOf s rec) bytes h in
+        record {
+          same-answer = λ i. restored (numberOfAnswer (P i .answer));
+          same-kept = λ i. record { logger = P i .state; images = map (imageOf s) copies; written = recordsOf rec; writtenAt = map recordsOf copies };
+          ok = ok;
+        }
+
+  -- call by call
+  pub record Run (d : Desk) (cs : List Call) : Type 0 where
+    pub same-answers : loggerAnswers loggerCalls (callerOf d) cs ≡ answers s d cs
+    pub same-kept : callerAfterAll loggerCalls (callerOf d) cs ≡ callerOf (deskAfter s d cs)
+
+  step-run : (d : Desk) (c : Call) (cs : List Call) → Step d c → Run (after s d c) cs → Run d (c ∷ cs)
+  step-run d c cs step run = record {
+    same-answers = λ i. step .same-answer i ∷ (ap (λ (w : Caller State). loggerAnswers loggerCalls w cs) (step .same-kept) ∙ run .same-answers) i;
+    same-kept = ap (λ (w : Caller State). callerAfterAll loggerCalls w cs) (step .same-kept) ∙ run .same-kept;
+  }
+
+  -- the copies after an accepted save are one more
+  copies-more : (d : Desk) (b : Bool) (cs : List Call) → WellFormed (if b then length (d .copies) else suc (length (d .copies))) cs
+      → WellFormed (length ((if b then d else record { recording = d .recording; copies = d .copies ++ (d .recording ∷ []) }) .copies)) cs
+  copies-more d true cs w = w
+  copies-more d false cs w =
+      let l : suc (length (d .copies)) ≡ length (d .copies ++ (d .recording ∷ [])) = simp length-append (omega arith) in
+      subst (λ (n : ℕ). WellFormed n cs) l w
+
+  pub run : (cs : List Call) (d : Desk) → DeskOk d → WellFormed (length (d .copies)) cs → Run d cs
+  run [] d ok w = record { same-answers = refl; same-kept = refl }
+  run (feed block lent ∷ cs) d ok w = let p = feed-step d ok block lent (w .0) in step-run d (feed block lent) cs p (run cs (after s d (feed block lent)) (p .ok) (w .2))
+  run (look ∷ cs) d ok w = step-run d look cs (look-step d ok) (run cs d ok w)
+  run (save lent ∷ cs) d ok w =
+      let p = save-step d ok lent in
+      step-run d (save lent) cs p (run cs (after s d (save lent)) (p .ok) (copies-more d (length lent <ᵇ 620) cs (w .1)))
+  run (restoreSave j ∷ cs) d ok w = let p = restore-step d ok j (w .0) in step-run d (restoreSave j) cs p (run cs (after s d (restoreSave j)) (p .ok) (w .1))
+  run (restoreRefused bytes ∷ cs) d ok w = step-run d (restoreRefused bytes) cs (refuse-step d ok bytes (w .1)) (run cs d ok (w .2))
+
+  -- from the fresh logger
+  fresh-kept : freshCaller loggerCalls (fresh s) ≡ callerOf emptyDesk
+  fresh-kept =
+      let none : valueCount s [] ≡ 0 = omega (arith, halves-none s) in
+      λ i. record {
+        logger = fresh-is s some i;
+        images = [];
+        written = recordBytes (events s (history s [] (sym none i)));
+        writtenAt = [];
+      }
+
+  pub agrees : (cs : List Call) → WellFormed 0 cs → Agree loggerCalls s (fresh s) cs
+  agrees cs w =
+      let r = run cs emptyDesk (record { recording-ok = recording-none s; copies-ok = tt }) w in
+      record {
+        same-answers = ap (λ (c : Caller State). loggerAnswers loggerCalls c cs) fresh-kept ∙ r .same-answers;
+        same-records = ap (λ (c : Caller State). callerAfterAll loggerCalls c cs .written) fresh-kept ∙ ap (λ (c : Caller State). c .written) (r .same-kept);
+      }
+
+-- start: settings bytes in, a fresh logger or a refusal out
+refused-some : (b : List ℕ) (n : ℕ) → settingsRead b ≡ settings-read.Refused n → n ≡ 0 → ⊥
+unfolding settingsRead
+refused-some b n e z = go (startRefusal b) refl e
+  where
+    go : (k : ℕ) → startRefusal b ≡ k → answerOf k (settingsOf b) ≡ settings-read.Refused n → ⊥
+    go zero p q = let c : _≡_ {A = ℕ} 0 1 = cc in omega arith
+    go (suc k) p q = let c : suc k ≡ n = cc in omega arith
+
+pub demand3-holds : Demand3 loggerCalls
+demand3-holds b are = go (settingsRead b) refl
+  where
+    go : (r : SettingsRead) → settingsRead b ≡ r → Kept loggerCalls b (startedFrom r)
+    go (settings-read.Read s) e =
+        let a = read-accepted b s e in
+        (a .none, λ cs w. subst (λ (z : Settings). Agree loggerCalls z (fresh s) cs) (a .settings-are) (agrees s (a .valid) cs w))
+    go (settings-read.Refused n) e = (refused-refusal b n e, refused-some b n e)

@@ -1,0 +1,3 @@
+pub mod Claim
+pub mod TheCalls
+pub mod ClaimProof

@@ -1,0 +1,5 @@
+pub mod Image
+pub mod ImageValid
+pub mod ImageSections
+pub mod ImageLaws
+pub mod ImageRecording

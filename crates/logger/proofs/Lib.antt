@@ -1,0 +1,3 @@
+pub mod HalfWays
+pub mod HalfFeeds
+pub mod BlockWays

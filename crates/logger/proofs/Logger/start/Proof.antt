@@ -1,0 +1,20 @@
+-- The parts are those of a fresh logger.
+use borrow.Author.Needs.{needs}
+use Rattle.machine.specs.Step.{fresh}
+use Rattle.logger.proofs.Logger.start.Statement.{statement}
+use Rattle.logger.proofs.Logger.start.Tie as tie
+
+new-requires : tie.Need-new-requires
+new-requires c κs = search needs
+
+new-requires-2 : tie.Need-new-requires-2
+new-requires-2 c κs = search needs
+
+returns : tie.Need-returns
+unfolding fresh
+returns c =
+    let s = c .before .before .args .settings in
+    λ i. record { settings = s; gatherer = c .before .new .ensures i; detector = c .new2 .ensures i; window = fresh s .window }
+
+pub start-spec : {M : Type 1} → statement M
+start-spec = tie.close (tie.spec new-requires new-requires-2 returns)

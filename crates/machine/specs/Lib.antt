@@ -1,0 +1,5 @@
+pub mod Step
+pub mod StepValid
+pub mod StepFollows
+pub mod StepHalf
+pub mod Calls
