@@ -224,3 +224,12 @@ module _ (b : List ℕ) (are : Bytes b) (accepted : restoreRefusal b ≡ 0) wher
         values-part = sym (values-again .written);
         events-part = sym (detector-again .written);
       })
+
+-- a restore leaves a valid state valid
+pub restoredBy-valid : (old : State) (b : List ℕ) → Bytes b → ValidState old → ValidState (restoredBy old b .state)
+unfolding restoredBy
+restoredBy-valid old b are valid = by-number (restoreRefusal b) refl
+  where
+    by-number : (n : ℕ) → restoreRefusal b ≡ n → ValidState (restoredFrom n old (stateAt b) .state)
+    by-number zero e = stateAt-valid b are e
+    by-number (suc n) e = valid

@@ -11,15 +11,16 @@ use Rattle.settings.specs.Settings.{scaledOf}
 use Rattle.reading.specs.Values.{squares}
 use Rattle.reading.specs.Changes.{sum as sumOf}
 use Rattle.reading.specs.Records.{recordBytes}
-use Rattle.reading.specs.Engineer.{over, room}
 use Rattle.rms.specs.declared.Gatherer.{Gatherer}
 use Rattle.rms.specs.Gather.{withPart}
 use Rattle.detection.specs.declared.Detector.{Detector}
 use Rattle.records.specs.Due.{placed}
 use Rattle.image.specs.declared.State.{State}
+use Rattle.image.specs.declared.Answer.{Answer}
+use Rattle.image.specs.Image.{restoredBy}
 use Rattle.image.specs.ImageValid.{ValidState}
-use Rattle.greedy.specs.Greedy.{fedBy}
-use Rattle.machine.specs.Step.{passesEnd, dueWith, after, machine}
+use Rattle.machine.specs.Step.{passesEnd, dueWith, after}
+use Rattle.machine.specs.Calls.{fedWith}
 use Rattle.logger.specs.declared.Half.{Half}
 use Rattle.logger.specs.declared.Walked.{Walked}
 
@@ -60,9 +61,15 @@ walkedWith g d part taken written why = record { gatherer = withPart g (length p
 
 -- what feed gives: the greedy feed's outcome, and in the record buffer its records, then what was there
 pub record FedIs (st : State) (block : List ℤ) (lent : List ℕ) (end : State) (taken written why : ℕ) (out : List ℕ) : Type 0 where
-  pub after-is : end ≡ fedBy machine st block (room lent) .after
-  pub taken-is : taken ≡ fedBy machine st block (room lent) .count
-  pub written-is : written ≡ length (fedBy machine st block (room lent) .records)
-  pub why-is : why ≡ fedBy machine st block (room lent) .reason
-  pub bytes-are : out ≡ over (recordBytes (fedBy machine st block (room lent) .records)) lent
+  pub after-is : end ≡ fedWith st block lent .after
+  pub taken-is : taken ≡ fedWith st block lent .taken
+  pub written-is : written ≡ fedWith st block lent .written
+  pub why-is : why ≡ fedWith st block lent .why
+  pub bytes-are : out ≡ fedWith st block lent .bytes
+  pub valid : ValidState end
+
+-- what restore gives: the image's state where it is accepted, else the old one; valid in either case
+pub record RestoredIs (old : State) (b : List ℕ) (end : State) (told : Answer) : Type 0 where
+  pub after-is : end ≡ restoredBy old b .state
+  pub answer-is : told ≡ restoredBy old b .answer
   pub valid : ValidState end

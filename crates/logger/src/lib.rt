@@ -1,5 +1,6 @@
 // The logger: a block of samples in, records out; its readings; its image saved and restored.
 use detection::Detector;
+use image::Answer;
 use image::State;
 use reading::Readings;
 use rms::Gatherer;
@@ -13,9 +14,10 @@ ghost use Rattle.settings.specs.Notation.{_<ᵇ_, if_then_else_};
 ghost use Rattle.reading.specs.Values.{squares};
 ghost use Rattle.reading.specs.Changes.{sum as sumOf};
 ghost use Rattle.settings.specs.SettingsLaws.{ValidSettings};
+ghost use Rattle.image.specs.Image.{saveAnswer, savedBytes};
 ghost use Rattle.image.specs.ImageValid.{ValidState};
 ghost use Rattle.machine.specs.Step.{fresh, readingsOf, phaseNumberOf};
-ghost use Rattle.logger.specs.Feed.{stateWith, refusedHalf, walkedWith, CompleteReady, HalfIs, FedIs};
+ghost use Rattle.logger.specs.Feed.{stateWith, refusedHalf, walkedWith, CompleteReady, HalfIs, FedIs, RestoredIs};
 
 // What completing a half-cycle leaves of the logger beside the window, how many records were written, and why it was not taken, or 0.
 struct Half {
@@ -225,11 +227,17 @@ pub struct Fed {
     pub why: u32,
 }
 
+// What restore leaves and tells.
+pub struct Resumed {
+    pub logger: Logger,
+    pub answer: Answer,
+}
+
 impl Logger {
     // A fresh logger.
     pub fn start(settings: Settings) -> Logger
         requires { ⌜ ValidSettings settings ⌝ }
-        ensures { λ r. ⌜ r .state ≡ fresh settings ⌝ }
+        ensures { λ r. ⌜ (r .state ≡ fresh settings) × ValidState (r .state) ⌝ }
     {
         Logger {
             state: State {
@@ -292,6 +300,29 @@ impl Logger {
             dip: 0 < dip.start,
             swell: 0 < swell.start,
             interruption: 0 < interruption.start,
+        }
+    }
+
+    // Writes the logger's image into the first 620 bytes. 0, or 7 where the buffer is shorter, and then it stays as it was.
+    pub fn save(self, image: &mut [u8]) -> u32
+        ensures { λ r. ⌜ (r ≡ saveAnswer (now (image .entry))) × (now (image .exit) ≡ savedBytes (self .state) (now (image .entry))) ⌝ }
+    {
+        let state = self.state;
+        state.save(image)
+    }
+
+    // The logger of an image; on refusal the old one remains.
+    pub fn restore(self, bytes: &[u8]) -> Resumed
+        requires { ⌜ ValidState (self .state) ⌝ }
+        ensures { λ r. ⌜ RestoredIs (self .state) (now (bytes .entry)) (r .logger .state) (r .answer) ⌝ }
+    {
+        let old = self.state;
+        let restored = old.restore(bytes);
+        let answer = restored.answer;
+        let state = restored.state;
+        Resumed {
+            logger: Logger { state },
+            answer,
         }
     }
 }

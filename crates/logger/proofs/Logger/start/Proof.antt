@@ -1,6 +1,10 @@
 -- The parts are those of a fresh logger.
+use mathlib.Core.Path.{_≡_, sym, subst}
 use borrow.Author.Needs.{needs}
+use Rattle.image.specs.ImageValid.{ValidState}
 use Rattle.machine.specs.Step.{fresh}
+use Rattle.machine.specs.StepValid.{fresh-valid}
+use Rattle.logger.specs.Feed.{stateWith}
 use Rattle.logger.proofs.Logger.start.Statement.{statement}
 use Rattle.logger.proofs.Logger.start.Tie as tie
 
@@ -14,7 +18,9 @@ returns : tie.Need-returns
 unfolding fresh
 returns c =
     let s = c .before .before .args .settings in
-    λ i. record { settings = s; gatherer = c .before .new .ensures i; detector = c .new2 .ensures i; window = fresh s .window }
+    let is : stateWith s (c .before .new .result) (c .new2 .result) (fresh s .window) ≡ fresh s =
+    λ i. record { settings = s; gatherer = c .before .new .ensures i; detector = c .new2 .ensures i; window = fresh s .window } in
+    (is, subst ValidState (sym is) (fresh-valid s (c .before .before .pre)))
 
 pub start-spec : {M : Type 1} → statement M
 start-spec = tie.close (tie.spec new-requires new-requires-2 returns)
