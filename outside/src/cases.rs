@@ -1,0 +1,204 @@
+//! Random cases: settings, lists of calls, images, damaged images. Each is run on every
+//! implementation, and the first difference is told.
+
+use crate::guard::Guarded;
+use crate::hosts::{demand, Lengths, Outcome, Run};
+use crate::images::{self, Fields};
+use crate::logger::Logger;
+use crate::rng::{one_of, Rng};
+use crate::rules::{self, settings_bytes, Settings, IMAGE};
+use crate::waves;
+
+impl Run<'_> {
+    /// One case.
+    pub fn case(&mut self, rng: &mut Rng) -> Outcome<()> {
+        match rng.range(0, 99) {
+            0..=9 => self.settings_case(rng),
+            10..=54 => self.list_case(rng),
+            55..=84 => self.image_case(rng),
+            _ => self.damaged_case(rng),
+        }
+    }
+
+    /// Start and begin on good and bad settings.
+    fn settings_case(&mut self, rng: &mut Rng) -> Outcome<()> {
+        let bytes = if rng.chance(15) {
+            settings_bytes(&waves::settings(rng))
+        } else {
+            waves::bad_settings(rng)
+        };
+        self.seen.call("start");
+        let number = rules::settings(&bytes).err().unwrap_or(0);
+        let by_logger = Logger::start(&bytes).err().unwrap_or(0);
+        self.seen.number(number);
+        demand(number == by_logger, || format!("start: numbers {number} and {by_logger}"))?;
+        let length = one_of(&[IMAGE, IMAGE, IMAGE + 1, 700, 0, 1, IMAGE - 1], rng);
+        let (begun, _) = self.begin(&bytes, length, rng.next() as u8)?;
+        let expected = if number == 0 && length < IMAGE { 7 } else { number };
+        demand(begun == expected, || format!("begin gives {begun}, not {expected}"))
+    }
+
+    /// Advances from an accepted image, built directly or saved and then changed.
+    fn image_case(&mut self, rng: &mut Rng) -> Outcome<()> {
+        let s = waves::settings(rng);
+        let mut image = match rng.range(0, 9) {
+            0 => {
+                let pairs = images::pairs(s);
+                pairs[rng.range(0, pairs.len() as i64 - 1) as usize].accepted.bytes()
+            }
+            1..=2 => {
+                let saved = recorded(rng, &s);
+                let changed = changed_byte(rng, &saved);
+                if rules::restore(&changed) == 0 {
+                    changed
+                } else {
+                    saved
+                }
+            }
+            _ => images::accepted(rng, s),
+        };
+        demand(rules::restore(&image) == 0, || "the built image is not accepted".into())?;
+        let s = Fields::of(&image).s;
+        self.kept_image(&image)?;
+
+        let halves = one_of(&[1, 3, 30, s.n + 5, 2 * s.n + 5], rng);
+        let halves = if s.m > 40 { halves.min(s.n + 5) } else { halves };
+        let samples = waves::bytes(&waves::wave(rng, &s, halves));
+        let mut left = &samples[..];
+        for _ in 0..rng.range(1, 5) {
+            let most = left.len() as i64 / 2;
+            let length = one_of(&[most, most, rng.range(0, most), s.m.min(most), 1.min(most)], rng);
+            let lengths = Lengths {
+                image: IMAGE + one_of(&[0, 0, 1, 80], rng),
+                records: one_of(&[0, 19, 20, 40, 60, 79, 80, 4000, 4000], rng),
+                reply: 24 + one_of(&[0, 0, 1, 40], rng),
+            };
+            let fill = rng.next() as u8;
+            let x = self.advance(&image, &left[..2 * length as usize], lengths, fill)?;
+            self.seen.built += 1;
+            demand(x.number == 0, || format!("an accepted image gives {}", x.number))?;
+            demand(rules::restore(&x.image[..IMAGE]) == 0, || "the new image is refused".into())?;
+            left = &left[2 * x.reply(0) as usize..];
+            image = x.image[..IMAGE].to_vec();
+            self.kept_image(&image)?;
+        }
+        Ok(())
+    }
+
+    /// The logger of an accepted image looks as its bodies say, and saves the same image.
+    fn kept_image(&mut self, image: &[u8]) -> Outcome<()> {
+        self.seen.call("restore");
+        self.seen.call("look");
+        let logger = Logger::from_image(image).map_err(|x| format!("logger refuses {x}"))?;
+        demand(image_of(&logger) == image, || "restore and save give another image".into())?;
+        let x = Fields::of(image);
+        let looked = logger.look();
+        let used = (x.v as i64).min(x.s.n) as usize;
+        let sum: u64 = x.places.iter().map(|&r| r as u64).sum();
+        let same = looked.v == x.v as u64
+            && looked.r == if used > 0 { x.places[used - 1] as u64 } else { 0 }
+            && looked.a == if used as i64 == x.s.n { sum } else { 0 }
+            && looked.phase == x.phase as u64
+            && looked.stand == [0, 2, 4].map(|e| x.events[e] > 0);
+        demand(same, || format!("look gives {looked:?} for {x:?}"))
+    }
+
+    /// Advances with one thing, or several, that must be refused.
+    fn damaged_case(&mut self, rng: &mut Rng) -> Outcome<()> {
+        let s = waves::settings(rng);
+        let good = match rng.range(0, 2) {
+            0 => recorded(rng, &s),
+            _ => images::accepted(rng, s),
+        };
+        for _ in 0..12 {
+            let image = if rng.chance(70) { damaged(rng, &good) } else { good.clone() };
+            let number = rules::restore(&image);
+            self.seen.call("restore");
+            self.seen.number(number);
+            let by_logger = Logger::from_image(&image).err().unwrap_or(0);
+            demand(number == by_logger, || format!("restore: numbers {number} and {by_logger}"))?;
+            let mut samples = waves::bytes(&waves::wave(rng, &s, 2));
+            if rng.chance(30) {
+                samples.pop();
+            }
+            let lengths = Lengths {
+                image: one_of(&[IMAGE, IMAGE, IMAGE, IMAGE + 1, IMAGE - 1, 0, 24], rng),
+                records: one_of(&[0, 19, 20, 80], rng),
+                reply: one_of(&[24, 24, 24, 25, 23, 0, 8], rng),
+            };
+            let fill = rng.next() as u8;
+            let left = self.advance(&image, &samples, lengths, fill)?;
+            // The order 8 to 11, 12, 7, 13.
+            let expected = if number > 0 {
+                number
+            } else if samples.len() % 2 == 1 {
+                12
+            } else if lengths.image < IMAGE {
+                7
+            } else if lengths.reply < 24 {
+                13
+            } else {
+                0
+            };
+            demand(left.number == expected, || format!("number {}, not {expected}", left.number))?;
+            if expected > 0 {
+                let unchanged = left.image == Guarded::filled(lengths.image, fill).get()
+                    && left.records == Guarded::filled(lengths.records, fill ^ 0x55).get()
+                    && left.reply == Guarded::filled(lengths.reply, fill ^ 0x33).get();
+                demand(unchanged, || "a refused advance changed a buffer".into())?;
+            }
+        }
+        Ok(())
+    }
+}
+
+/// The logger's image.
+pub fn image_of(logger: &Logger) -> Vec<u8> {
+    let mut image = vec![0; IMAGE];
+    logger.save(&mut image).unwrap();
+    image
+}
+
+/// The image of a random recording.
+fn recorded(rng: &mut Rng, s: &Settings) -> Vec<u8> {
+    let halves = rng.range(0, 3 * s.n);
+    let samples = waves::bytes(&waves::wave(rng, s, halves));
+    let cut = rng.range(0, samples.len() as i64 / 2) as usize;
+    let mut logger = Logger::start(&settings_bytes(s)).unwrap();
+    logger.feed(&samples.as_chunks::<2>().0[..cut], &mut vec![0; 80 * 800]);
+    image_of(&logger)
+}
+
+/// One byte changed, anywhere.
+fn changed_byte(rng: &mut Rng, image: &[u8]) -> Vec<u8> {
+    let mut bytes = image.to_vec();
+    let at = rng.range(0, bytes.len() as i64 - 1) as usize;
+    bytes[at] ^= if rng.chance(50) { 1 << rng.range(0, 7) } else { rng.range(1, 255) as u8 };
+    bytes
+}
+
+/// Damaged in one way: a byte, the length, the settings, or a rule of 11.
+pub fn damaged(rng: &mut Rng, image: &[u8]) -> Vec<u8> {
+    let mut bytes = image.to_vec();
+    match rng.range(0, 9) {
+        0..=2 => changed_byte(rng, image),
+        3 => {
+            bytes.resize(one_of(&[0, 1, 32, 68, 619, 621, 1240], rng), 0);
+            bytes
+        }
+        4 => {
+            bytes[rng.range(0, 31) as usize] ^= 1 << rng.range(0, 7);
+            bytes
+        }
+        5 => {
+            let mut bad = waves::bad_settings(rng);
+            bad.resize(36, 0);
+            bytes[32..68].copy_from_slice(&bad);
+            bytes
+        }
+        _ => {
+            let pairs = images::pairs(Fields::of(image).s);
+            pairs[rng.range(0, pairs.len() as i64 - 1) as usize].broken.bytes()
+        }
+    }
+}

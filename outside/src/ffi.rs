@@ -1,0 +1,57 @@
+//! The proved library, called as C does: every slice is a pointer and a length.
+
+mod library {
+    extern "C" {
+        pub fn pq_begin(
+            settings: *const u8,
+            settings_length: usize,
+            image: *mut u8,
+            image_length: usize,
+        ) -> u32;
+
+        pub fn pq_advance(
+            image: *const u8,
+            image_length: usize,
+            samples: *const u8,
+            samples_length: usize,
+            new_image: *mut u8,
+            new_image_length: usize,
+            records: *mut u8,
+            records_length: usize,
+            reply: *mut u8,
+            reply_length: usize,
+        ) -> u32;
+    }
+}
+
+/// The proved begin.
+pub fn begin(settings: &[u8], image: &mut [u8]) -> u32 {
+    // SAFETY: both slices are valid for their lengths during the call and do not overlap.
+    unsafe { library::pq_begin(settings.as_ptr(), settings.len(), image.as_mut_ptr(), image.len()) }
+}
+
+/// The proved advance.
+pub fn advance(
+    image: &[u8],
+    samples: &[u8],
+    new_image: &mut [u8],
+    records: &mut [u8],
+    reply: &mut [u8],
+) -> u32 {
+    // SAFETY: all slices are valid for their lengths during the call; those written are borrowed
+    // alone, so none overlaps another.
+    unsafe {
+        library::pq_advance(
+            image.as_ptr(),
+            image.len(),
+            samples.as_ptr(),
+            samples.len(),
+            new_image.as_mut_ptr(),
+            new_image.len(),
+            records.as_mut_ptr(),
+            records.len(),
+            reply.as_mut_ptr(),
+            reply.len(),
+        )
+    }
+}

@@ -1,0 +1,54 @@
+//! Begin and advance over the fast logger, on byte slices, as a host in C calls them.
+
+use crate::image::{opened, IMAGE};
+use crate::limits::Limits;
+use crate::logger::Logger;
+
+/// Begin: 1 to 6 for the settings, then 7 for the image's buffer; else 0 and a fresh image.
+pub fn begin(settings: &[u8], image: &mut [u8]) -> u32 {
+    let limits = match Limits::new(settings) {
+        Ok(limits) => limits,
+        Err(number) => return number,
+    };
+    match Logger::fresh(limits).save(image) {
+        Ok(()) => 0,
+        Err(number) => number,
+    }
+}
+
+/// Advance: 8 to 11, 12, 7, 13, in that order; else 0 after restore, feed and save.
+pub fn advance(
+    image: &[u8],
+    samples: &[u8],
+    new_image: &mut [u8],
+    records: &mut [u8],
+    reply: &mut [u8],
+) -> u32 {
+    // Restore, in place: a logger is large to hand on.
+    let (limits, image) = match opened(image) {
+        Ok(x) => x,
+        Err(number) => return number,
+    };
+    let mut logger = Logger::fresh(limits);
+    if !logger.take_bodies(limits, image) {
+        return 11;
+    }
+    let (samples, odd) = samples.as_chunks::<2>();
+    if !odd.is_empty() {
+        return 12;
+    }
+    if new_image.len() < IMAGE {
+        return 7;
+    }
+    let Some(reply) = reply.first_chunk_mut::<24>() else {
+        return 13;
+    };
+    let fed = logger.feed(samples, records);
+    if let Err(number) = logger.save(new_image) {
+        return number;
+    }
+    reply[..8].copy_from_slice(&fed.taken.to_le_bytes());
+    reply[8..16].copy_from_slice(&fed.written.to_le_bytes());
+    reply[16..].copy_from_slice(&fed.why.to_le_bytes());
+    0
+}

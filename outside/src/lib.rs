@@ -1,0 +1,36 @@
+//! An outside implementation of the supply logger's measuring part.
+//!
+//! Three readings of one paper, written apart from each other:
+//! - the engineer (`engineer`, `readings`, `rules`): keeps the whole recording, reads all anew;
+//! - the stepper (`stepper`): goes on from any accepted image, one sample at a time, naively;
+//! - the logger (`logger`, `limits`, `ring`, `room`, `squares`, `image`, `host`): small state, made
+//!   for speed.
+
+pub mod engineer;
+pub mod readings;
+pub mod rules;
+
+pub mod stepper;
+
+pub mod host;
+pub mod image;
+pub mod limits;
+pub mod logger;
+pub mod ring;
+pub mod room;
+pub mod squares;
+
+pub mod program;
+
+#[cfg(feature = "proved")]
+pub mod ffi;
+
+// What the binaries share: random cases and how they are compared.
+pub mod cases;
+pub mod guard;
+pub mod hosts;
+pub mod images;
+pub mod lists;
+pub mod rng;
+pub mod seen;
+pub mod waves;

@@ -1,0 +1,202 @@
+//! Lists of calls with named saves: the engineer and the fast logger, call by call.
+
+use crate::cases::{damaged, image_of};
+use crate::engineer::{Answer, Call, Engineer};
+use crate::guard::Guarded;
+use crate::hosts::{demand, first_difference, Lengths, Outcome, Run};
+use crate::images::Fields;
+use crate::logger::Logger;
+use crate::rng::{one_of, Rng};
+use crate::rules::{self, settings_bytes, Settings, IMAGE};
+use crate::waves;
+
+/// What a list of calls has left so far.
+#[derive(Default)]
+struct List {
+    /// Image and records written, for each accepted save.
+    saves: Vec<(Vec<u8>, Vec<u8>)>,
+    written: Vec<u8>,
+}
+
+impl Run<'_> {
+    /// A list of calls: the engineer and the logger, and every feed through advance too.
+    pub fn list_case(&mut self, rng: &mut Rng) -> Outcome<()> {
+        let s = waves::settings(rng);
+        let bytes = settings_bytes(&s);
+        self.seen.call("start");
+        let mut engineer = Engineer::start(&bytes).map_err(|x| format!("engineer refuses {x}"))?;
+        let mut logger = Logger::start(&bytes).map_err(|x| format!("logger refuses {x}"))?;
+        let (_, image) = self.begin(&bytes, IMAGE, 7)?;
+        demand(image == engineer.image(), || "begin's image is not the engineer's".into())?;
+
+        let halves = if s.m <= 40 { rng.range(1, 7 * s.n) } else { rng.range(1, 3 * s.n) };
+        let mut source = waves::wave(rng, &s, halves);
+        let mut list = List::default();
+        let calls = rng.range(1, 30);
+        for j in 0..calls {
+            let call = self.next_call(rng, &s, &mut source, &mut list, calls - j);
+            let at = |text: String| format!("{s:?}, call {j} ({}): {text}", describe(&call));
+            let answer = engineer.call(&call);
+            let image = image_of(&logger);
+            self.run_call(&mut logger, &call, &answer, &mut list, rng).map_err(at)?;
+            if let (Call::Feed { block, room }, Answer::Feed(fed, _)) = (&call, &answer) {
+                self.feed_by_hosts(&image, &image_of(&logger), block, *room, &answer)
+                    .map_err(at)?;
+                source.drain(..fed.taken as usize);
+            }
+        }
+        let written = engineer.written();
+        demand(written == engineer.due(), || "records written are not those due".into())?;
+        demand(written == list.written, || "the logger's records are not those due".into())?;
+        demand(engineer.image() == image_of(&logger), || "the last images differ".into())?;
+        self.seen.dropped += engineer.changes_dropped() as u64;
+        Ok(())
+    }
+
+    fn next_call(
+        &mut self,
+        rng: &mut Rng,
+        s: &Settings,
+        source: &mut Vec<i16>,
+        list: &mut List,
+        left: i64,
+    ) -> Call {
+        let room = match rng.range(0, 9) {
+            0 => 0,
+            1 => rng.range(0, 100),
+            2 => one_of(&[19, 20, 39, 40, 59, 60, 61], rng),
+            3..=4 => 20 * rng.range(0, 3),
+            _ => 4000,
+        } as usize;
+        match rng.range(0, 99) {
+            0..=59 => {
+                let most = source.len() as i64;
+                let length = match rng.range(0, 9) {
+                    0 => rng.range(0, 2),
+                    1 => rng.range(0, s.m + 1),
+                    2 => one_of(&[s.m - 1, s.m, s.m + 1, 2 * s.m], rng),
+                    3 => s.m * rng.range(1, 30),
+                    4..=5 => most,
+                    _ => 2 * most / left + rng.range(0, s.m),
+                };
+                let block = source[..length.min(most) as usize].to_vec();
+                Call::Feed { block, room }
+            }
+            60..=69 => Call::Look,
+            70..=84 => {
+                let lengths = [0, 1, 619, 620, 620, 620, 621, 700];
+                Call::Save { length: one_of(&lengths, rng) }
+            }
+            85..=92 if !list.saves.is_empty() => {
+                Call::RestoreSave { name: rng.range(0, list.saves.len() as i64 - 1) as usize }
+            }
+            _ => {
+                let base = match list.saves.last() {
+                    Some((image, _)) => image.clone(),
+                    None => Fields::fresh(*s).bytes(),
+                };
+                let bytes = damaged(rng, &base);
+                // Bytes that would be accepted have no place in a list.
+                if rules::restore(&bytes) == 0 {
+                    Call::Look
+                } else {
+                    Call::RestoreBytes { bytes }
+                }
+            }
+        }
+    }
+
+    /// One call on the logger, compared with the engineer's answer.
+    fn run_call(
+        &mut self,
+        logger: &mut Logger,
+        call: &Call,
+        answer: &Answer,
+        list: &mut List,
+        rng: &mut Rng,
+    ) -> Outcome<()> {
+        let fill = rng.next() as u8;
+        match (call, answer) {
+            (Call::Feed { block, room }, Answer::Feed(fed, records)) => {
+                self.seen.call("feed");
+                self.seen.fed(fed.why, records);
+                let block = waves::bytes(block);
+                let mut buffer = Guarded::filled(*room, fill);
+                let by_logger = logger.feed(block.as_chunks::<2>().0, buffer.get_mut());
+                demand(*fed == by_logger, || format!("{fed:?} and {by_logger:?}"))?;
+                let mut expected = Guarded::filled(*room, fill).get().to_vec();
+                expected[..records.len()].copy_from_slice(records);
+                list.written.extend(records);
+                demand(buffer.holds() && buffer.get() == expected, || {
+                    format!("records: {}", first_difference(&expected, buffer.get()))
+                })
+            }
+            (Call::Look, Answer::Look(looked)) => {
+                self.seen.call("look");
+                let by_logger = logger.look();
+                demand(*looked == by_logger, || format!("{looked:?} and {by_logger:?}"))
+            }
+            (Call::Save { length }, Answer::Save(number, image)) => {
+                self.seen.call("save");
+                self.seen.number(*number);
+                let mut buffer = Guarded::filled(*length, fill);
+                let by_logger = logger.save(buffer.get_mut()).err().unwrap_or(0);
+                demand(*number == by_logger, || format!("numbers {number} and {by_logger}"))?;
+                let mut expected = Guarded::filled(*length, fill).get().to_vec();
+                expected[..image.len()].copy_from_slice(image);
+                if *number == 0 {
+                    list.saves.push((image.clone(), list.written.clone()));
+                }
+                demand(buffer.holds() && buffer.get() == expected, || {
+                    format!("image: {}", first_difference(&expected, buffer.get()))
+                })
+            }
+            (Call::RestoreSave { name }, Answer::Restore(number)) => {
+                self.seen.call("restore");
+                let (image, written) = list.saves[*name].clone();
+                let by_logger = logger.restore(&image).err().unwrap_or(0);
+                list.written = written;
+                demand(*number == by_logger, || format!("numbers {number} and {by_logger}"))
+            }
+            (Call::RestoreBytes { bytes }, Answer::Restore(number)) => {
+                self.seen.call("restore");
+                self.seen.number(*number);
+                let by_logger = logger.restore(bytes).err().unwrap_or(0);
+                demand(*number == by_logger, || format!("numbers {number} and {by_logger}"))?;
+                let lengths = Lengths { image: IMAGE, records: 0, reply: 24 };
+                let by_hosts = self.advance(bytes, &[], lengths, fill)?.number;
+                demand(*number == by_hosts, || format!("numbers {number} and {by_hosts}"))
+            }
+            _ => Err("the answer is of another call".into()),
+        }
+    }
+
+    /// The same feed through advance, from the image before to the image after.
+    fn feed_by_hosts(
+        &mut self,
+        before: &[u8],
+        after: &[u8],
+        block: &[i16],
+        room: usize,
+        answer: &Answer,
+    ) -> Outcome<()> {
+        let Answer::Feed(fed, records) = answer else { unreachable!() };
+        let lengths = Lengths { image: IMAGE, records: room, reply: 24 };
+        let left = self.advance(before, &waves::bytes(block), lengths, 1)?;
+        let same = left.number == 0
+            && left.image == after
+            && left.records[..records.len()] == records[..]
+            && [left.reply(0), left.reply(1), left.reply(2)] == [fed.taken, fed.written, fed.why];
+        demand(same, || "the hosts agree, but not with the engineer".into())
+    }
+}
+
+fn describe(call: &Call) -> String {
+    match call {
+        Call::Feed { block, room } => format!("feed {} samples, room {room}", block.len()),
+        Call::Look => "look".into(),
+        Call::Save { length } => format!("save {length}"),
+        Call::RestoreSave { name } => format!("restore save {name}"),
+        Call::RestoreBytes { bytes } => format!("restore {} bytes", bytes.len()),
+    }
+}

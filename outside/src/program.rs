@@ -1,0 +1,51 @@
+//! What the event program prints, once by the engineer and once by the fast logger.
+
+use crate::engineer::Engineer;
+use crate::logger::Logger;
+use crate::rules::{four, RECORD};
+
+/// One line for each record, then V.
+fn lines(records: &[u8], v: u64) -> String {
+    let mut text = String::from("kind start halves first second\n");
+    for x in records.chunks_exact(RECORD) {
+        let kind = ["dip", "swell", "interruption", "rvc"][x[0] as usize - 1];
+        let columns = [4, 8, 12, 16].map(|at| four(x, at).to_string()).join(" ");
+        text += &format!("{kind} {columns}\n");
+    }
+    text + &format!("values {v}\n")
+}
+
+fn split(input: &[u8]) -> (&[u8], &[u8]) {
+    input.split_at(input.len().min(36))
+}
+
+pub fn by_engineer(input: &[u8]) -> String {
+    let (settings, samples) = split(input);
+    let mut engineer = match Engineer::start(settings) {
+        Ok(engineer) => engineer,
+        Err(number) => return format!("refused {number}\n"),
+    };
+    let block: Vec<i16> =
+        samples.as_chunks::<2>().0.iter().map(|&x| i16::from_le_bytes(x)).collect();
+    let (_, records) = engineer.feed(&block, usize::MAX);
+    lines(&records, engineer.look().v)
+}
+
+pub fn by_logger(input: &[u8]) -> String {
+    let (settings, samples) = split(input);
+    let mut logger = match Logger::start(settings) {
+        Ok(logger) => logger,
+        Err(number) => return format!("refused {number}\n"),
+    };
+    let mut left = samples.as_chunks::<2>().0;
+    let mut records = Vec::new();
+    let mut room = [0; 4 * RECORD];
+    loop {
+        let fed = logger.feed(left, &mut room);
+        records.extend(&room[..RECORD * fed.written as usize]);
+        left = &left[fed.taken as usize..];
+        if fed.why != 1 {
+            return lines(&records, logger.look().v);
+        }
+    }
+}

@@ -1,0 +1,322 @@
+//! Everything that the paper reads from a recording and the settings: values, standing events,
+//! the steady signal, records with their due values, the image. Nothing is kept between readings.
+
+use crate::rules::{settings_bytes, table, Settings, IMAGE, TOP};
+
+/// A record and the value at which it is due.
+#[derive(Clone, Copy, Debug, PartialEq, Eq)]
+pub struct Record {
+    pub due: i64,
+    pub kind: i64,
+    pub start: i64,
+    pub duration: i64,
+    pub first: i64,
+    pub second: i64,
+}
+
+impl Record {
+    /// The 20 bytes.
+    pub fn bytes(&self) -> Vec<u8> {
+        let mut b = vec![self.kind as u8, 0, 0, 0];
+        for x in [self.start, self.duration, self.first, self.second] {
+            b.extend((x as u32).to_le_bytes());
+        }
+        b
+    }
+}
+
+/// The readings of one recording. Lists that are counted from 1 have an unused place 0.
+pub struct Readings<'a> {
+    s: Settings,
+    recording: &'a [i16],
+    r: Vec<i64>,
+    dip: Vec<bool>,
+    swell: Vec<bool>,
+    interruption: Vec<bool>,
+    signal: Vec<bool>,
+}
+
+impl<'a> Readings<'a> {
+    pub fn of(s: Settings, recording: &'a [i16]) -> Self {
+        let r = values(&s, recording);
+        let dip = stands_below(&s, s.d, &r);
+        let interruption = stands_below(&s, s.i, &r);
+        let swell = stands_above(&s, &r);
+        let mut x = Readings { s, recording, r, dip, swell, interruption, signal: Vec::new() };
+        x.read_signal();
+        x
+    }
+
+    /// V.
+    pub fn v(&self) -> i64 {
+        self.r.len() as i64 - 1
+    }
+
+    /// r(i).
+    pub fn r(&self, i: i64) -> i64 {
+        self.r[i as usize]
+    }
+
+    /// A(i), for i of at least N.
+    pub fn a(&self, i: i64) -> i64 {
+        (i - self.s.n + 1..=i).map(|j| self.r(j)).sum()
+    }
+
+    /// Whether the voltage is calm at i under limit t.
+    fn calm(&self, i: i64, t: i64) -> bool {
+        let n = self.s.n;
+        let a = self.a(i);
+        (i - n + 1..=i).all(|j| 10_000 * (n * self.r(j) - a).abs() <= t * n * self.s.u)
+    }
+
+    /// The steady signal at every value; false where it is not defined, below N.
+    fn read_signal(&mut self) {
+        let n = self.s.n;
+        self.signal = vec![false; self.r.len()];
+        for i in n..=self.v() {
+            let was_true = i > n && self.signal[(i - 1) as usize];
+            let now = if i == n || was_true {
+                self.calm(i, self.s.t)
+            } else {
+                match self.turned_false(i - 1) {
+                    None => self.calm(i, self.s.t),
+                    Some(k) if i <= k + n => false,
+                    Some(_) => self.calm(i, self.s.t - self.s.h),
+                }
+            };
+            self.signal[i as usize] = now;
+        }
+    }
+
+    /// The value, up to i, at which the signal last turned false; none if it was never true.
+    fn turned_false(&self, i: i64) -> Option<i64> {
+        (self.s.n + 1..=i).rev().find(|&k| self.turns_false(k))
+    }
+
+    fn turns_false(&self, k: i64) -> bool {
+        self.signal[(k - 1) as usize] && !self.signal[k as usize]
+    }
+
+    /// Whether a dip or a swell first stands at i.
+    fn dip_or_swell_begins(&self, i: i64) -> bool {
+        begins(&self.dip, i) || begins(&self.swell, i)
+    }
+
+    /// Greatest |N × r(j) − A(k − 1)| for j from k to `to`, 0 if there is none.
+    fn greatest_difference(&self, k: i64, to: i64) -> i64 {
+        let before = self.a(k - 1);
+        (k..=to).map(|j| (self.s.n * self.r(j) - before).abs()).max().unwrap_or(0)
+    }
+
+    /// All records due, by due value and then by kind.
+    pub fn records(&self) -> Vec<Record> {
+        let mut list = Vec::new();
+        self.event_records(1, &self.dip, &mut list);
+        self.event_records(2, &self.swell, &mut list);
+        self.event_records(3, &self.interruption, &mut list);
+        self.change_records(&mut list);
+        list.sort_by_key(|x| (x.due, x.kind));
+        list
+    }
+
+    fn event_records(&self, kind: i64, stands: &[bool], list: &mut Vec<Record>) {
+        let v = self.v();
+        for a in (1..=v).filter(|&a| begins(stands, a)) {
+            if let Some(b) = (a + 1..=v).find(|&b| !stands[b as usize]) {
+                let first = self.magnitude(kind, a, b - 1);
+                list.push(Record { due: b, kind, start: a, duration: b - a, first, second: 0 });
+            }
+        }
+    }
+
+    /// The least, or for a swell the greatest, r of a to z.
+    fn magnitude(&self, kind: i64, a: i64, z: i64) -> i64 {
+        let r = (a..=z).map(|j| self.r(j));
+        if kind == 2 {
+            r.max().unwrap()
+        } else {
+            r.min().unwrap()
+        }
+    }
+
+    /// All changes that have ended: k and m.
+    pub fn changes(&self) -> Vec<(i64, i64)> {
+        let v = self.v();
+        let from = (self.s.n + 1..=v).filter(|&k| self.turns_false(k));
+        from.filter_map(|k| {
+            let m = (k + 1..=v).find(|&m| self.signal[m as usize])?;
+            Some((k, m))
+        })
+        .collect()
+    }
+
+    fn change_records(&self, list: &mut Vec<Record>) {
+        let n = self.s.n;
+        for (k, m) in self.changes() {
+            if (k..=m - n).any(|j| self.dip_or_swell_begins(j)) {
+                continue;
+            }
+            list.push(Record {
+                due: m,
+                kind: 4,
+                start: k,
+                duration: m - n - k,
+                first: self.greatest_difference(k, m - n),
+                second: (self.a(m) - self.a(k - 1)).abs(),
+            });
+        }
+    }
+
+    /// The phase: 0 fewer than N values, 1 never yet steady, 2 steady, 3 in a change.
+    pub fn phase(&self) -> i64 {
+        let v = self.v();
+        if v < self.s.n {
+            0
+        } else if self.signal[v as usize] {
+            2
+        } else if self.turned_false(v).is_some() {
+            3
+        } else {
+            1
+        }
+    }
+
+    /// Whether a dip, a swell and an interruption stand after V.
+    pub fn stand(&self) -> [bool; 3] {
+        let v = self.v() as usize;
+        [self.dip[v], self.swell[v], self.interruption[v]]
+    }
+
+    /// The image, 620 bytes.
+    pub fn image(&self) -> Vec<u8> {
+        let mut b = table();
+        b.extend(settings_bytes(&self.s));
+        self.gatherer_body(&mut b);
+        self.values_body(&mut b);
+        self.phase_body(&mut b);
+        self.events_body(&mut b);
+        assert_eq!(b.len(), IMAGE);
+        b
+    }
+
+    fn gatherer_body(&self, b: &mut Vec<u8>) {
+        let m = self.s.m as usize;
+        let whole = self.recording.len() / m;
+        let in_progress = &self.recording[whole * m..];
+        let last = if whole > 0 { energy(&self.recording[(whole - 1) * m..whole * m]) } else { 0 };
+        put4(b, in_progress.len() as i64);
+        b.extend((energy(in_progress) as u64).to_le_bytes());
+        b.extend((last as u64).to_le_bytes());
+        put4(b, (whole > 0) as i64);
+    }
+
+    fn values_body(&self, b: &mut Vec<u8>) {
+        let v = self.v();
+        let used = v.min(self.s.n);
+        put4(b, v);
+        for j in v - used + 1..=v {
+            put4(b, self.r(j));
+        }
+        for _ in used..120 {
+            put4(b, 0);
+        }
+    }
+
+    fn phase_body(&self, b: &mut Vec<u8>) {
+        let v = self.v();
+        let phase = self.phase();
+        put4(b, phase);
+        if phase != 3 {
+            b.extend([0; 16]);
+            return;
+        }
+        let k = self.turned_false(v).unwrap();
+        put4(b, k);
+        put4(b, self.a(k - 1));
+        put4(b, self.greatest_difference(k, v - self.s.n));
+        put4(b, (k..=v).find(|&j| self.dip_or_swell_begins(j)).unwrap_or(0));
+    }
+
+    fn events_body(&self, b: &mut Vec<u8>) {
+        let v = self.v();
+        for (kind, stands) in [(1, &self.dip), (2, &self.swell), (3, &self.interruption)] {
+            if stands[v as usize] {
+                let a = (1..=v).rev().find(|&a| begins(stands, a)).unwrap();
+                put4(b, a);
+                put4(b, self.magnitude(kind, a, v));
+            } else {
+                b.extend([0; 8]);
+            }
+        }
+    }
+}
+
+fn put4(b: &mut Vec<u8>, x: i64) {
+    b.extend((x as u32).to_le_bytes());
+}
+
+/// The sum of squares of samples.
+pub fn energy(samples: &[i16]) -> i64 {
+    samples.iter().map(|&s| s as i64 * s as i64).sum()
+}
+
+/// The greatest whole number x with x² × 2 × M ≤ 256 × pair, found by halving.
+pub fn root(m: i64, pair: i64) -> i64 {
+    let (mut low, mut high) = (0, TOP + 1);
+    while high - low > 1 {
+        let x = (low + high) / 2;
+        if x * x * 2 * m <= 256 * pair {
+            low = x;
+        } else {
+            high = x;
+        }
+    }
+    low
+}
+
+/// All values; place 0 is unused.
+fn values(s: &Settings, recording: &[i16]) -> Vec<i64> {
+    let m = s.m as usize;
+    let e = |h: usize| energy(&recording[(h - 1) * m..h * m]);
+    let whole = recording.len() / m;
+    let mut r = vec![0];
+    for i in 1..whole {
+        r.push(root(s.m, e(i) + e(i + 1)));
+    }
+    r
+}
+
+/// Whether a dip (level D) or an interruption (level I) stands after each value.
+fn stands_below(s: &Settings, level: i64, r: &[i64]) -> Vec<bool> {
+    let mut stands = vec![false];
+    for i in 1..r.len() {
+        stands.push(if 10_000 * r[i] < level * s.u {
+            true
+        } else if 10_000 * r[i] >= (level + s.g) * s.u {
+            false
+        } else {
+            stands[i - 1]
+        });
+    }
+    stands
+}
+
+/// Whether a swell stands after each value.
+fn stands_above(s: &Settings, r: &[i64]) -> Vec<bool> {
+    let mut stands = vec![false];
+    for i in 1..r.len() {
+        stands.push(if 10_000 * r[i] > s.w * s.u {
+            true
+        } else if 10_000 * r[i] <= (s.w - s.g) * s.u {
+            false
+        } else {
+            stands[i - 1]
+        });
+    }
+    stands
+}
+
+/// Whether an event first stands at i.
+fn begins(stands: &[bool], i: i64) -> bool {
+    stands[i as usize] && !stands[i as usize - 1]
+}

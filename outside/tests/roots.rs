@@ -1,0 +1,35 @@
+//! The fast root and the fast sum of squares against the plain ones, at the edges.
+
+use outside::rng::Rng;
+use outside::{readings, squares, waves};
+
+#[test]
+fn roots_on_both_sides_of_each_step() {
+    let mut rng = Rng::new(3);
+    for m in 8..=256i64 {
+        let mut list: Vec<i64> = (1..=300).chain(524_200..=524_288).collect();
+        list.extend((0..2000).map(|_| rng.range(1, 524_288)));
+        for r in list {
+            // The least pair of sums that gives r.
+            let pair = (r * r * m + 127) / 128;
+            for x in [pair - 1, pair] {
+                let fast = squares::root(m as u64, 128.0 / m as f64, x as u64);
+                assert_eq!(fast as i64, readings::root(m, x), "M {m}, pair {x}");
+            }
+            assert!(readings::root(m, pair - 1) < r && readings::root(m, pair) >= r);
+        }
+    }
+}
+
+#[test]
+fn sums_of_every_length() {
+    let mut rng = Rng::new(4);
+    for length in 0..=256 {
+        let random: Vec<i16> = (0..length).map(|_| rng.next() as i16).collect();
+        for samples in [vec![-32_768; length], vec![32_767; length], vec![1; length], random] {
+            let bytes = waves::bytes(&samples);
+            let fast = squares::energy(bytes.as_chunks::<2>().0);
+            assert_eq!(fast as i64, readings::energy(&samples));
+        }
+    }
+}
