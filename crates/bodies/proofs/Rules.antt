@@ -1,13 +1,14 @@
 -- What the tests of a rule tell: a call's answer that was tested, a rule with a condition, and a rule for every place of a list that a loop walks.
-use mathlib.Core.Path.{_≡_, sym, _∙_, ap}
+use mathlib.Core.Path.{_≡_, refl, sym, _∙_, ap, ap₂}
 use mathlib.Core.Bool.{Bool, true, false, not, _&&_}
-use mathlib.Core.List.{List}
-use Prim.Native.Nat.{ℕ, suc, _+_, _<_}
+use mathlib.Core.List.{List, [], _∷_}
+use Prim.Native.Nat.{ℕ, zero, suc, _+_, _<_}
 use native.Mathlib.Numerals.{add-one}
+use native.Mathlib.Omega.{arith}
 use lib.ListN.{length, getD, drop}
 use lib.Seq.{drop-cons}
-use borrow.Author.Tests.{not-true, not-false}
-use Rattle.settings.specs.Notation.{all}
+use borrow.Author.Tests.{not-true, not-false, lt-leb, ne-eqb}
+use Rattle.settings.specs.Notation.{_≤ᵇ_, _≡ᵇ_, all}
 use Rattle.settings.specs.NotationLaws.{and-fails, and-passes}
 use Rattle.reading.specs.Restore.{implies}
 
@@ -35,3 +36,12 @@ module _ (test : ℕ → Bool) (places : List ℕ) (k : ℕ) (h : k < length pla
 
   pub holds : test (getD places k 0) ≡ true → all test (drop (k + 1) places) ≡ all test (drop k places)
   holds e = ap (λ (j : ℕ). all test (drop j places)) (add-one k) ∙ sym (from-one ∙ and-passes _ e)
+
+-- no place above 0 is each place 0
+pub up-to-zero : (places : List ℕ) → all (_≤ᵇ 0) places ≡ all (_≡ᵇ 0) places
+up-to-zero [] = refl
+up-to-zero (x ∷ places) = ap₂ _&&_ (test x) (up-to-zero places)
+  where
+    test : (n : ℕ) → (n ≤ᵇ 0) ≡ (n ≡ᵇ 0)
+    test zero = refl
+    test (suc n) = lt-leb (suc n) 0 (omega arith) ∙ sym (ne-eqb (suc n) 0 (λ e. omega (arith, e)))

@@ -166,25 +166,12 @@ pub fn put_values(part: &mut [u8], count: u64, window: &[u32])
     octets::put_words(&mut part[4..484], window);
 }
 
-fn all_values(places: &[u32]) -> bool
-    ensures { λ r. ⌜ r ≡ all (_≤ᵇ 524288) (now (places .entry)) ⌝ }
+fn all_up_to(places: &[u32], most: u32) -> bool
+    ensures { λ r. ⌜ r ≡ all (_≤ᵇ most) (now (places .entry)) ⌝ }
 {
     let mut k = 0;
     while k < places.len() {
-        if 524_288 < places[k] {
-            return false;
-        }
-        k += 1;
-    }
-    true
-}
-
-fn all_zero(places: &[u32]) -> bool
-    ensures { λ r. ⌜ r ≡ all (_≡ᵇ 0) (now (places .entry)) ⌝ }
-{
-    let mut k = 0;
-    while k < places.len() {
-        if places[k] != 0 {
+        if most < places[k] {
             return false;
         }
         k += 1;
@@ -208,11 +195,11 @@ fn window_good(window: &[u32], count: u64, size: u64) -> bool
     requires { ⌜ (size ≤ 120) × (length (now window) ≡ 120) ⌝ }
     ensures { λ r. ⌜ r ≡ (all (_≤ᵇ 524288) (now (window .entry)) && all (_≡ᵇ 0) (drop (min count size) (now (window .entry)))) ⌝ }
 {
-    if !all_values(window) {
+    if !all_up_to(window, 524_288) {
         return false;
     }
     let first_unused = used(count, size);
-    all_zero(&window[first_unused..])
+    all_up_to(&window[first_unused..], 0)
 }
 
 pub fn read_window(part: &[u8], settings: Settings) -> WindowRead

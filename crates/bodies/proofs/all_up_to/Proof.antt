@@ -4,17 +4,17 @@ use mathlib.Core.List.{[]}
 use Prim.Native.Nat.{_≤_, _-_}
 use native.Mathlib.Omega.{arith}
 use lib.ListN.{length, drop, drop-of-length-le}
-use borrow.Author.Tests.{eq-eqb, ne-eqb}
-use Rattle.settings.specs.Notation.{_≡ᵇ_, all}
+use borrow.Author.Tests.{le-leb, lt-leb}
+use Rattle.settings.specs.Notation.{_≤ᵇ_, all}
 use Rattle.bodies.proofs.Rules.{breaks, holds}
-use Rattle.bodies.proofs.all_zero.Statement.{statement}
-use Rattle.bodies.proofs.all_zero.Tie as tie
+use Rattle.bodies.proofs.all_up_to.Statement.{statement}
+use Rattle.bodies.proofs.all_up_to.Tie as tie
 
 abbrev Inv-loop : tie.InvT-loop
-Inv-loop places k₀ k = (k ≤ length places) × (all (_≡ᵇ 0) (drop k places) ≡ all (_≡ᵇ 0) places)
+Inv-loop places most k₀ k = (k ≤ length places) × (all (_≤ᵇ most) (drop k places) ≡ all (_≤ᵇ most) places)
 
 abbrev μ-loop : tie.MeasureT-loop
-μ-loop places k₀ k = length places - k
+μ-loop places most k₀ k = length places - k
 
 loop-holds : tie.Need-loop-holds Inv-loop μ-loop
 loop-holds c = (omega arith, refl)
@@ -29,7 +29,8 @@ returns : tie.Need-returns Inv-loop μ-loop
 returns c =
     let l = c .before .before .before .loop in
     let places = c .before .before .before .before .args .places .now in
-    sym (sym (l .inv .1) ∙ breaks (_≡ᵇ 0) places (l .k) (omega arith) (ne-eqb _ _ (c .if1 .taken)))
+    let most = c .before .before .before .before .args .most in
+    sym (sym (l .inv .1) ∙ breaks (_≤ᵇ most) places (l .k) (omega arith) (lt-leb _ _ (c .if1 .taken)))
 
 add-k : tie.Need-add-k Inv-loop μ-loop
 add-k c = omega arith
@@ -41,17 +42,19 @@ loop-again : tie.Need-loop-again Inv-loop μ-loop
 loop-again c =
     let l = c .before .before .before .loop in
     let places = c .before .before .before .before .args .places .now in
-    (omega arith, holds (_≡ᵇ 0) places (l .k) (omega arith) (eq-eqb _ _ (c .if1 .left)) ∙ l .inv .1)
+    let most = c .before .before .before .before .args .most in
+    (omega arith, holds (_≤ᵇ most) places (l .k) (omega arith) (le-leb _ _ (c .if1 .left)) ∙ l .inv .1)
 
 returns-2 : tie.Need-returns-2 Inv-loop μ-loop
 returns-2 c =
     let l = c .before .loop in
     let places = c .before .before .args .places .now in
+    let most = c .before .before .args .most in
     let none : drop (l .k) places ≡ [] = drop-of-length-le places {i = l .k} (omega arith) in
-    ap (all (_≡ᵇ 0)) (sym none) ∙ l .inv .1
+    ap (all (_≤ᵇ most)) (sym none) ∙ l .inv .1
 
-pub all-zero-spec : {M : Type 1} → statement M
-all-zero-spec =
+pub all-up-to-spec : {M : Type 1} → statement M
+all-up-to-spec =
     tie.close
     (tie.spec
     Inv-loop
