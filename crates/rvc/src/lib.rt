@@ -42,13 +42,6 @@ fn distance(a: u64, b: u64) -> u64
     if a < b { b - a } else { a - b }
 }
 
-// a − b, 0 where that would be below.
-fn less(a: u64, b: u64) -> u64
-    ensures { λ r. ⌜ r ≡ a - b ⌝ }
-{
-    if a < b { 0 } else { a - b }
-}
-
 // The first stand that is kept, or value i, where a dip or a swell first stands there.
 fn first_stand(kept: u64, stands: bool, i: u64) -> u64
     ensures { λ r. ⌜ r ≡ (if 0 <ᵇ kept then kept else if stands then i else 0) ⌝ }
@@ -112,11 +105,11 @@ impl Change {
     fn event(self, size: u64, i: u64, sum: u64) -> Ended
         ensures { λ r. ⌜ listOf r ≡ closing size i sum self ⌝ }
     {
-        let settled = less(i, size);
+        let settled = window::less(i, size);
         let event = Event {
-            kind: 4,
+            kind: Event::CHANGE,
             start: self.start,
-            duration: less(settled, self.start),
+            duration: window::less(settled, self.start),
             first: self.difference,
             second: distance(sum, self.sum),
         };

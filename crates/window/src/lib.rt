@@ -53,8 +53,8 @@ pub fn all_between(part: &[u32], lowest: u32, highest: u32) -> bool
     inside
 }
 
-// The difference, 0 where it would be below.
-fn less(a: u64, b: u64) -> u64
+// a − b, 0 where that would be below.
+pub fn less(a: u64, b: u64) -> u64
     ensures { λ r. ⌜ r ≡ a - b ⌝ }
 {
     if a < b { 0 } else { a - b }
