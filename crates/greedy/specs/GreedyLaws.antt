@@ -2,11 +2,11 @@
 use mathlib.Core.Path.{_≡_, refl, sym, _∙_, ap}
 use mathlib.Core.Bool.{Bool, true, false}
 use mathlib.Core.List.{List, [], _∷_, _++_, append-assoc}
-use Prim.Native.Nat.{ℕ, suc, _+_, _-_}
+use Prim.Native.Nat.{ℕ, suc, _+_, _-_, _≤_}
 use native.Mathlib.Omega.{arith}
 use lib.ListN.{length, length-append}
 use lib.IntN.{ℤ}
-use borrow.Author.Tests.{le-ltb}
+use borrow.Author.Tests.{le-ltb, ltb-false}
 use Rattle.settings.specs.Notation.{_<ᵇ_, _≡ᵇ_, if_then_else_}
 use Rattle.reading.specs.declared.Event.{Event}
 use Rattle.greedy.specs.Greedy.{Machine, Fed, stopped, joined, fedBy, walked}
@@ -69,6 +69,45 @@ module _ {St : Type 0} (M : Machine St) where
       go true f ih = refl
       go false true ih = refl
       go false false ih = ap (joined 1 (M .dueWith st x)) ih ∙ joined-andThen (M .dueWith st x) (fedBy M (M .next st x) xs later) ys room
+
+  -- a block that is taken with reason 0 is taken whole
+  pub fedBy-whole : (xs : List ℤ) (st : St) (room : ℕ) → fedBy M st xs room .reason ≡ 0 → fedBy M st xs room .count ≡ length xs
+  unfolding fedBy
+  fedBy-whole [] st room r = refl
+  fedBy-whole (x ∷ xs) st room r = go (M .atEnd st x) (room <ᵇ length (M .dueWith st x)) r (fedBy-whole xs (M .next st x) (room - length (M .dueWith st x)))
+    where
+      later : Fed St
+      later = fedBy M (M .next st x) xs (room - length (M .dueWith st x))
+
+      go : (e f : Bool) → on st x xs room e f .reason ≡ 0 → (later .reason ≡ 0 → later .count ≡ length xs) → on st x xs room e f .count ≡ suc (length xs)
+      go true f q ih = absurd (omega arith)
+      go false true q ih = absurd (omega arith)
+      go false false q ih = omega (arith, ih q)
+
+  -- and never more than the block
+  pub fedBy-most : (xs : List ℤ) (st : St) (room : ℕ) → fedBy M st xs room .count ≤ length xs
+  unfolding fedBy
+  fedBy-most [] st room = omega arith
+  fedBy-most (x ∷ xs) st room = go (M .atEnd st x) (room <ᵇ length (M .dueWith st x)) (fedBy-most xs (M .next st x) (room - length (M .dueWith st x)))
+    where
+      go : (e f : Bool) → fedBy M (M .next st x) xs (room - length (M .dueWith st x)) .count ≤ length xs → on st x xs room e f .count ≤ suc (length xs)
+      go true f ih = omega arith
+      go false true ih = omega arith
+      go false false ih = omega arith
+
+  -- the records written fit
+  pub fedBy-fits : (xs : List ℤ) (st : St) (room : ℕ) → length (fedBy M st xs room .records) ≤ room
+  unfolding fedBy
+  fedBy-fits [] st room = omega arith
+  fedBy-fits (x ∷ xs) st room = go (M .atEnd st x) (room <ᵇ length (M .dueWith st x)) refl (fedBy-fits xs (M .next st x) (room - length (M .dueWith st x)))
+    where
+      later : List Event
+      later = fedBy M (M .next st x) xs (room - length (M .dueWith st x)) .records
+
+      go : (e f : Bool) → (room <ᵇ length (M .dueWith st x)) ≡ f → length later ≤ room - length (M .dueWith st x) → length (on st x xs room e f .records) ≤ room
+      go true f q ih = omega arith
+      go false true q ih = omega arith
+      go false false q ih = omega (arith, length-append (M .dueWith st x) later, ltb-false room (length (M .dueWith st x)) q)
 
   -- a part of which no sample passes the end or has a record due is taken whole, whatever the room
   abbrev pub Quiet : St → List ℤ → Type 0

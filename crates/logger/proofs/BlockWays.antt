@@ -45,7 +45,7 @@ pub record Going (st₀ : State) (block : List ℤ) (lent out : List ℕ) (st : 
   pub count : written ≡ length records
   pub bytes : out ≡ placed 0 (recordBytes records) lent
 
-going-first : (st : State) (block : List ℤ) (lent : List ℕ) → ValidState st → Going st block lent lent st 0 0
+pub going-first : (st : State) (block : List ℤ) (lent : List ℕ) → ValidState st → Going st block lent lent st 0 0
 going-first st block lent ok =
     let c : (k : ℕ) → k ≡ 0 + k = λ k. omega arith in
     let r : room lent ≡ room lent - 0 = omega arith in
@@ -96,7 +96,7 @@ module _ (st₀ : State) (block : List ℤ) (lent out : List ℕ) (st : State) (
       }
 
   -- where the walk ends: with what the greedy feed leaves
-  going-last : (end : State) (n why taken : ℕ) → fedBy machine st (drop at block) (room lent - written) ≡ stoppedAt end n why → taken ≡ at + n → ValidState end →
+  pub going-last : (end : State) (n why taken : ℕ) → fedBy machine st (drop at block) (room lent - written) ≡ stoppedAt end n why → taken ≡ at + n → ValidState end →
       FedIs st₀ block lent end taken written why out
   going-last end n why taken e t ok =
       let all : fedBy machine st₀ block (room lent) ≡ joined at (g .records) (stoppedAt end n why) = g .fed ∙ ap (joined at (g .records)) e in

@@ -1,3 +1,4 @@
 pub mod HalfWays
 pub mod HalfFeeds
 pub mod BlockWays
+pub mod ChunkWays

@@ -13,6 +13,7 @@ ghost use lib.ListN.{length, take, getD};
 ghost use Rattle.settings.specs.Notation.{_<ᵇ_, if_then_else_};
 ghost use Rattle.reading.specs.Values.{squares};
 ghost use Rattle.reading.specs.Changes.{sum as sumOf};
+ghost use Rattle.samples.specs.Samples.{samplesOf};
 ghost use Rattle.settings.specs.SettingsLaws.{ValidSettings};
 ghost use Rattle.image.specs.Image.{saveAnswer, savedBytes};
 ghost use Rattle.image.specs.ImageValid.{ValidState};
@@ -177,6 +178,68 @@ fn walk(
     end_walk(g, d, &block[at..], at + share.count, written, 0)
 }
 
+// How many of the samples that are left are decoded at a time.
+fn chunk_of(left: usize) -> usize
+    ensures { λ r. ⌜ r ≡ min left 1024 ⌝ }
+{
+    if left < 1024 { left } else { 1024 }
+}
+
+// The samples of bytes, chunk by chunk, each decoded on the stack.
+fn walk_bytes(
+    settings: Settings,
+    gatherer: Gatherer,
+    detector: Detector,
+    window: &mut [u32],
+    bytes: &[u8],
+    records: &mut [u8],
+) -> Walked
+    requires { ⌜ ValidState (stateWith settings gatherer detector (now window)) ⌝ }
+    ensures { λ r. ⌜ FedIs (stateWith settings gatherer detector (now (window .entry))) (samplesOf (now (bytes .entry))) (now (records .entry)) (stateWith settings (r .gatherer) (r .detector) (now (window .exit))) (r .taken) (r .written) (r .why) (now (records .exit)) ⌝ }
+{
+    let count = bytes.len() / 2;
+    let mut places = [0i16; 1024];
+    let mut g = gatherer;
+    let mut d = detector;
+    let mut at: usize = 0;
+    let mut written: usize = 0;
+    while at < count {
+        let size = chunk_of(count - at);
+        let start = 2 * at;
+        let end = start + 2 * size;
+        let behind = 20 * written;
+        samples::decode(&bytes[start..end], &mut places[..size]);
+        let walked = walk(
+            settings,
+            g,
+            d,
+            window,
+            &places[..size],
+            &mut records[behind..],
+        );
+        g = walked.gatherer;
+        d = walked.detector;
+        written += walked.written;
+        if 0 < walked.why {
+            return Walked {
+                gatherer: g,
+                detector: d,
+                taken: at + walked.taken,
+                written,
+                why: walked.why,
+            };
+        }
+        at += size;
+    }
+    Walked {
+        gatherer: g,
+        detector: d,
+        taken: at,
+        written,
+        why: 0,
+    }
+}
+
 // The newest of `count` values, in a window that keeps `size` of them; 0 where there is none.
 fn newest(window: &[u32], size: u64, count: u64) -> u64
     requires { ⌜ (0 < size) × (size ≤ length (now window)) ⌝ }
@@ -260,6 +323,34 @@ impl Logger {
         let detector = state.detector;
         let mut window = state.window;
         let walked = walk(settings, gatherer, detector, &mut window, block, records);
+        let gathered = walked.gatherer;
+        let detected = walked.detector;
+        let after = State {
+            settings,
+            gatherer: gathered,
+            detector: detected,
+            window,
+        };
+        let logger = Logger { state: after };
+        Fed {
+            logger,
+            taken: walked.taken,
+            written: walked.written,
+            why: walked.why,
+        }
+    }
+
+    // The same of the samples that bytes are; a last odd byte is none.
+    pub fn feed_bytes(self, bytes: &[u8], records: &mut [u8]) -> Fed
+        requires { ⌜ ValidState (self .state) ⌝ }
+        ensures { λ r. ⌜ FedIs (self .state) (samplesOf (now (bytes .entry))) (now (records .entry)) (r .logger .state) (r .taken) (r .written) (r .why) (now (records .exit)) ⌝ }
+    {
+        let state = self.state;
+        let settings = state.settings;
+        let gatherer = state.gatherer;
+        let detector = state.detector;
+        let mut window = state.window;
+        let walked = walk_bytes(settings, gatherer, detector, &mut window, bytes, records);
         let gathered = walked.gatherer;
         let detected = walked.detector;
         let after = State {

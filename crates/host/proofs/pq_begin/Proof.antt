@@ -10,7 +10,7 @@ use Rattle.settings.specs.Settings.{settingsRead}
 use Rattle.settings.specs.SettingsLaws.{read-accepted}
 use Rattle.image.specs.declared.State.{State}
 use Rattle.image.specs.Image.{savedBytes}
-use Rattle.host.specs.Host.{Begun, begunBy, begun}
+use Rattle.host.specs.Host.{begunBy, begun}
 use Rattle.host.proofs.pq_begin.Statement.{statement}
 use Rattle.host.proofs.pq_begin.Tie as tie
 

@@ -1,0 +1,100 @@
+-- Restore's answer, then the tests in 01's order; each way out is a law of Ways.
+use borrow.Author.Needs.{needs}
+use Rattle.host.proofs.Ways.{image-refused, odd-refused, next-refused, reply-refused, all-done}
+use Rattle.host.proofs.pq_advance.Statement.{statement}
+use Rattle.host.proofs.pq_advance.Tie as tie
+
+plain-settings-requires : tie.Need-plain-settings-requires
+plain-settings-requires c κs = search needs
+
+start-requires : tie.Need-start-requires
+start-requires c κs = search needs
+
+restore-requires : tie.Need-restore-requires
+restore-requires c κs = search needs
+
+enum-known-answer : tie.Need-enum-known-answer
+enum-known-answer c = search needs
+
+enum-told : tie.Need-enum-told
+enum-told c = search needs
+
+returns : tie.Need-returns
+returns c =
+    let restored = c .before .before .before .before in
+    let a = restored .before .before .before .before .before .before .before .before .args in
+    let r = restored .restore in
+    odd-refused (a .image .now) (a .samples .now) (a .next .now) (a .records .now) (a .reply .now) (restored .before .start .result .state) (r .result .logger .state) (r .result .answer) (r .ensures) (c .before .enum-told .given .1) (c .if1 .taken)
+
+returns-2 : tie.Need-returns-2
+returns-2 c =
+    let restored = c .before .before .before .before .before in
+    let a = restored .before .before .before .before .before .before .before .before .args in
+    let r = restored .restore in
+    next-refused (a .image .now) (a .samples .now) (a .next .now) (a .records .now) (a .reply .now) (restored .before .start .result .state) (r .result .logger .state) (r .result .answer) (r .ensures) (c .before .before .enum-told .given .1) (c .before .if1 .left) (c .if2 .taken)
+
+returns-3 : tie.Need-returns-3
+returns-3 c =
+    let restored = c .before .before .before .before .before .before in
+    let a = restored .before .before .before .before .before .before .before .before .args in
+    let r = restored .restore in
+    reply-refused (a .image .now) (a .samples .now) (a .next .now) (a .records .now) (a .reply .now) (restored .before .start .result .state) (r .result .logger .state) (r .result .answer) (r .ensures) (c .before .before .before .enum-told .given .1) (c .before .before .if1 .left) (c .before .if2 .left) (c .if3 .taken)
+
+feed-bytes-requires : tie.Need-feed-bytes-requires
+feed-bytes-requires c κs = search needs
+
+put-reply-requires : tie.Need-put-reply-requires
+put-reply-requires c κs = search needs
+
+save-requires : tie.Need-save-requires
+save-requires c κs = search needs
+
+returns-4 : tie.Need-returns-4
+returns-4 c =
+    let restored = c .before .before .before .before in
+    let a = restored .before .before .before .before .before .before .before .before .args in
+    let r = restored .restore in
+    image-refused (a .image .now) (a .samples .now) (a .next .now) (a .records .now) (a .reply .now) (restored .before .start .result .state) (r .result .logger .state) (r .result .answer) (r .ensures) _ (c .before .answer .given .1)
+
+same-length : tie.Need-same-length
+same-length c = search needs
+
+same-length-2 : tie.Need-same-length-2
+same-length-2 c = search needs
+
+same-length-3 : tie.Need-same-length-3
+same-length-3 c = search needs
+
+returns-5 : tie.Need-returns-5
+returns-5 c =
+    let saved = c .before .before in
+    let told = saved .before .before .before .before in
+    let fed = told .before .before .before .before .before in
+    let tested = fed .before .before in
+    let restored = tested .before .before .before .before .before .before in
+    let a = restored .before .before .before .before .before .before .before .before .args in
+    let r = restored .restore in
+    all-done (a .image .now) (a .samples .now) (a .next .now) (a .records .now) (a .reply .now) (restored .before .start .result .state) (r .result .logger .state) (r .result .answer) (r .ensures) (tested .before .before .before .enum-told .given .1) (tested .before .before .if1 .left) (tested .before .if2 .left) (tested .if3 .left)
+    (fed .feed-bytes .result .logger .state) (fed .feed-bytes .result .taken) (fed .feed-bytes .result .written) (fed .feed-bytes .result .why)
+    _ _ _ _ (fed .feed-bytes .ensures) (told .put-reply .ensures) (saved .save .ensures)
+
+pub pq-advance-spec : {M : Type 1} → statement M
+pq-advance-spec =
+    tie.close
+    (tie.spec
+    plain-settings-requires
+    start-requires
+    restore-requires
+    enum-known-answer
+    enum-told
+    returns
+    returns-2
+    returns-3
+    feed-bytes-requires
+    put-reply-requires
+    save-requires
+    returns-4
+    same-length
+    same-length-2
+    same-length-3
+    returns-5)

@@ -1,0 +1,71 @@
+-- Three numbers of 8 bytes, one behind the other.
+use borrow.Author.Needs.{needs}
+use Rattle.host.proofs.Ways.{reply-is}
+use Rattle.host.proofs.put_reply.Statement.{statement}
+use Rattle.host.proofs.put_reply.Tie as tie
+
+sub-put-u64 : tie.Need-sub-put-u64
+sub-put-u64 c = search needs
+
+part-put-u64-start : tie.Need-part-put-u64-start
+part-put-u64-start c = search needs
+
+part-put-u64-end : tie.Need-part-put-u64-end
+part-put-u64-end c = search needs
+
+put-u64-requires : tie.Need-put-u64-requires
+put-u64-requires c κs = search needs
+
+sub-put-u64-2 : tie.Need-sub-put-u64-2
+sub-put-u64-2 c = search needs
+
+part-put-u64-start-2 : tie.Need-part-put-u64-start-2
+part-put-u64-start-2 c = search needs
+
+part-put-u64-end-2 : tie.Need-part-put-u64-end-2
+part-put-u64-end-2 c = search needs
+
+put-u64-requires-2 : tie.Need-put-u64-requires-2
+put-u64-requires-2 c κs = search needs
+
+sub-put-u64-3 : tie.Need-sub-put-u64-3
+sub-put-u64-3 c = search needs
+
+part-put-u64-start-3 : tie.Need-part-put-u64-start-3
+part-put-u64-start-3 c = search needs
+
+part-put-u64-end-3 : tie.Need-part-put-u64-end-3
+part-put-u64-end-3 c = search needs
+
+put-u64-requires-3 : tie.Need-put-u64-requires-3
+put-u64-requires-3 c κs = search needs
+
+same-length : tie.Need-same-length
+same-length c = search needs
+
+returns : tie.Need-returns
+returns c =
+    let third = c .before .before in
+    let second = third .before .before .before .before in
+    let first = second .before .before .before .before in
+    let a = first .before .before .before .args in
+    reply-is (a .taken) (a .written) (a .why) (a .reply .now) _ _ _ (first .put-u64 .ensures) (second .put-u642 .ensures) (third .put-u643 .ensures)
+
+pub put-reply-spec : {M : Type 1} → statement M
+put-reply-spec =
+    tie.close
+    (tie.spec
+    sub-put-u64
+    part-put-u64-start
+    part-put-u64-end
+    put-u64-requires
+    sub-put-u64-2
+    part-put-u64-start-2
+    part-put-u64-end-2
+    put-u64-requires-2
+    sub-put-u64-3
+    part-put-u64-start-3
+    part-put-u64-end-3
+    put-u64-requires-3
+    same-length
+    returns)
