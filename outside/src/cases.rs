@@ -1,7 +1,6 @@
 //! Random cases: settings, lists of calls, images, damaged images. Each is run on every
 //! implementation, and the first difference is told.
 
-use crate::guard::Guarded;
 use crate::hosts::{demand, Lengths, Outcome, Run};
 use crate::images::{self, Fields};
 use crate::logger::Logger;
@@ -14,9 +13,10 @@ impl Run<'_> {
     pub fn case(&mut self, rng: &mut Rng) -> Outcome<()> {
         match rng.range(0, 99) {
             0..=9 => self.settings_case(rng),
-            10..=54 => self.list_case(rng),
-            55..=84 => self.image_case(rng),
-            _ => self.damaged_case(rng),
+            10..=49 => self.list_case(rng),
+            50..=79 => self.image_case(rng),
+            80..=94 => self.damaged_case(rng),
+            _ => self.program_case(rng),
         }
     }
 
@@ -30,7 +30,6 @@ impl Run<'_> {
         self.seen.call("start");
         let number = rules::settings(&bytes).err().unwrap_or(0);
         let by_logger = Logger::start(&bytes).err().unwrap_or(0);
-        self.seen.number(number);
         demand(number == by_logger, || format!("start: numbers {number} and {by_logger}"))?;
         let length = one_of(&[IMAGE, IMAGE, IMAGE + 1, 700, 0, 1, IMAGE - 1], rng);
         let (begun, _) = self.begin(&bytes, length, rng.next() as u8)?;
@@ -70,7 +69,8 @@ impl Run<'_> {
             let length = one_of(&[most, most, rng.range(0, most), s.m.min(most), 1.min(most)], rng);
             let lengths = Lengths {
                 image: IMAGE + one_of(&[0, 0, 1, 80], rng),
-                records: one_of(&[0, 19, 20, 40, 60, 79, 80, 4000, 4000], rng),
+                records: one_of(&[0, 19, 20, 40, 60, 79, 80, rng.range(0, 200), 4000, 4000], rng)
+                    as usize,
                 reply: 24 + one_of(&[0, 0, 1, 40], rng),
             };
             let fill = rng.next() as u8;
@@ -114,7 +114,6 @@ impl Run<'_> {
             let image = if rng.chance(70) { damaged(rng, &good) } else { good.clone() };
             let number = rules::restore(&image);
             self.seen.call("restore");
-            self.seen.number(number);
             let by_logger = Logger::from_image(&image).err().unwrap_or(0);
             demand(number == by_logger, || format!("restore: numbers {number} and {by_logger}"))?;
             let mut samples = waves::bytes(&waves::wave(rng, &s, 2));
@@ -141,12 +140,6 @@ impl Run<'_> {
                 0
             };
             demand(left.number == expected, || format!("number {}, not {expected}", left.number))?;
-            if expected > 0 {
-                let unchanged = left.image == Guarded::filled(lengths.image, fill).get()
-                    && left.records == Guarded::filled(lengths.records, fill ^ 0x55).get()
-                    && left.reply == Guarded::filled(lengths.reply, fill ^ 0x33).get();
-                demand(unchanged, || "a refused advance changed a buffer".into())?;
-            }
         }
         Ok(())
     }

@@ -69,9 +69,10 @@ pub fn first_difference(a: &[u8], b: &[u8]) -> String {
     }
 }
 
-/// The implementations, and what has been seen.
+/// The implementations, the event program to run if there is one, and what has been seen.
 pub struct Run<'a> {
     pub hosts: &'a [Host],
+    pub program: Option<&'a str>,
     pub seen: &'a mut Seen,
 }
 
@@ -103,7 +104,9 @@ impl Run<'_> {
             expected[..IMAGE].copy_from_slice(&fresh.image());
         }
         demand(left.1 == expected, || "begin: the buffer is not as it should be".into())?;
-        self.seen.number(left.0);
+        if left.0 > 0 {
+            self.seen.begin_refusals[left.0 as usize] += 1;
+        }
         Ok(left)
     }
 
@@ -149,10 +152,24 @@ impl Run<'_> {
             agreed = Some(left);
         }
         let left = agreed.unwrap();
-        self.seen.number(left.number);
+        // How many bytes of each buffer may have changed: none where the call refused.
+        let mut used = [0; 3];
         if left.number == 0 {
-            let written = RECORD * left.reply(1) as usize;
-            self.seen.fed(left.reply(2), &left.records[..written]);
+            used = [IMAGE, RECORD * left.reply(1) as usize, 24];
+            self.seen.fed(left.reply(2), &left.records[..used[1]]);
+            // With room for four records only V's end can keep a sample out.
+            let stuck = left.reply(0) == 0 && left.reply(2) == 1 && l.records >= 4 * RECORD;
+            demand(!stuck, || "no sample taken, with room for four records".into())?;
+        } else {
+            self.seen.advance_refusals[left.number as usize] += 1;
+        }
+        let buffers = [&left.image, &left.records, &left.reply];
+        let fills = [fill, fill ^ 0x55, fill ^ 0x33];
+        for ((buffer, fill), used) in buffers.into_iter().zip(fills).zip(used) {
+            let before = Guarded::filled(buffer.len(), fill);
+            demand(buffer[used..] == before.get()[used..], || {
+                format!("advance gives {}: a buffer changed after byte {used}", left.number)
+            })?;
         }
         Ok(left)
     }

@@ -31,6 +31,7 @@ pub mod guard;
 pub mod hosts;
 pub mod images;
 pub mod lists;
+pub mod programs;
 pub mod rng;
 pub mod seen;
 pub mod waves;

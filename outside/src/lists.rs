@@ -119,7 +119,6 @@ impl Run<'_> {
         match (call, answer) {
             (Call::Feed { block, room }, Answer::Feed(fed, records)) => {
                 self.seen.call("feed");
-                self.seen.fed(fed.why, records);
                 let block = waves::bytes(block);
                 let mut buffer = Guarded::filled(*room, fill);
                 let by_logger = logger.feed(block.as_chunks::<2>().0, buffer.get_mut());
@@ -138,7 +137,6 @@ impl Run<'_> {
             }
             (Call::Save { length }, Answer::Save(number, image)) => {
                 self.seen.call("save");
-                self.seen.number(*number);
                 let mut buffer = Guarded::filled(*length, fill);
                 let by_logger = logger.save(buffer.get_mut()).err().unwrap_or(0);
                 demand(*number == by_logger, || format!("numbers {number} and {by_logger}"))?;
@@ -160,7 +158,6 @@ impl Run<'_> {
             }
             (Call::RestoreBytes { bytes }, Answer::Restore(number)) => {
                 self.seen.call("restore");
-                self.seen.number(*number);
                 let by_logger = logger.restore(bytes).err().unwrap_or(0);
                 demand(*number == by_logger, || format!("numbers {number} and {by_logger}"))?;
                 let lengths = Lengths { image: IMAGE, records: 0, reply: 24 };

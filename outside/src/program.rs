@@ -1,8 +1,11 @@
-//! What the event program prints, once by the engineer and once by the fast logger.
+//! What the event program prints, once by the engineer and once by the fast logger; and the recording
+//! that it is run on in the gate.
 
 use crate::engineer::Engineer;
 use crate::logger::Logger;
-use crate::rules::{four, RECORD};
+use crate::rng::Rng;
+use crate::rules::{self, four, RECORD};
+use crate::waves;
 
 /// One line for each record, then V.
 fn lines(records: &[u8], v: u64) -> String {
@@ -48,4 +51,22 @@ pub fn by_logger(input: &[u8]) -> String {
             return lines(&records, logger.look().v);
         }
     }
+}
+
+/// The recording in crates/event_log: under Q, a change, a swell, a dip with an interruption in it, a
+/// change that a dip hides; then a random wave, a dip that does not end, and an odd last byte.
+pub fn recording() -> Vec<u8> {
+    let q = [8, 50, 1600, 300, 150, 500, 9000, 11_000, 200];
+    let mut bytes: Vec<u8> = q.iter().flat_map(|x: &u32| x.to_le_bytes()).collect();
+    let settings = rules::settings(&bytes).unwrap();
+    let mut samples = Vec::new();
+    let steps = [(150, 100), (110, 96), (20, 115), (110, 98), (9, 60), (4, 2), (3, 70), (120, 100)];
+    for (halves, count) in steps {
+        samples.extend(vec![count; 8 * halves]);
+    }
+    samples.extend(waves::wave(&mut Rng::new(1), &settings, 1500));
+    samples.extend([40; 37]);
+    bytes.extend(waves::bytes(&samples));
+    bytes.push(1);
+    bytes
 }

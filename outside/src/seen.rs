@@ -9,15 +9,19 @@ pub const CALLS: [&str; 7] = ["start", "feed", "look", "save", "restore", "begin
 #[derive(Default)]
 pub struct Seen {
     pub calls: [u64; 7],
-    /// By kind, 1 to 4.
+    /// Records written by advance, by kind, 1 to 4.
     pub records: [u64; 5],
-    /// By why, 0 to 2.
+    /// Why advance took no more samples, 0 to 2.
     pub whys: [u64; 3],
-    /// By number, 1 to 13.
-    pub refusals: [u64; 14],
+    /// Refusals of begin, 1 to 7, and of advance, 7 to 13.
+    pub begin_refusals: [u64; 14],
+    pub advance_refusals: [u64; 14],
     /// Changes that a dip or swell dropped, and advances from images built directly.
     pub dropped: u64,
     pub built: u64,
+    /// Recordings read as the event program does, and those that a program was run on.
+    pub texts: u64,
+    pub programs: u64,
 }
 
 impl Seen {
@@ -26,16 +30,35 @@ impl Seen {
         self.calls[at] += 1;
     }
 
-    pub fn number(&mut self, number: u32) {
-        if number > 0 {
-            self.refusals[number as usize] += 1;
-        }
-    }
-
     pub fn fed(&mut self, why: u64, records: &[u8]) {
         self.whys[why as usize] += 1;
         for x in records.chunks_exact(RECORD) {
             self.records[x[0] as usize] += 1;
         }
+    }
+
+    /// Every count under its name.
+    pub fn counts(&self) -> Vec<(String, u64)> {
+        let mut list = Vec::new();
+        let mut add = |name: String, count: u64| list.push((name, count));
+        for (name, &count) in CALLS.iter().zip(&self.calls) {
+            add(name.to_string(), count);
+        }
+        for (kind, name) in [(1, "dip"), (2, "swell"), (3, "interruption"), (4, "rvc")] {
+            add(format!("record {name}"), self.records[kind]);
+        }
+        add("changes dropped".into(), self.dropped);
+        add("built images".into(), self.built);
+        for (why, &count) in self.whys.iter().enumerate() {
+            add(format!("why {why}"), count);
+        }
+        for number in 1..=7 {
+            add(format!("begin refuses {number}"), self.begin_refusals[number]);
+        }
+        for number in 7..=13 {
+            add(format!("advance refuses {number}"), self.advance_refusals[number]);
+        }
+        add("texts".into(), self.texts);
+        list
     }
 }

@@ -73,6 +73,9 @@ fn leaving_value(count: u64, size: u64, window: &[u32]) -> u64
 }
 
 impl Detector {
+    // V's end.
+    pub const LAST: u64 = 4_294_967_295;
+
     pub fn new() -> Detector
         ensures { λ r. ⌜ r ≡ noValue ⌝ }
     {

@@ -28,12 +28,13 @@ use Rattle.image.specs.declared.State.{State}
 use Rattle.image.specs.ImageValid.{ValidState}
 use Rattle.greedy.specs.Greedy.{Fed, joined, fedBy}
 use Rattle.greedy.specs.GreedyLaws.{joined-joined}
-use Rattle.machine.specs.Step.{withGathered, passesEnd, dueWith, after, machine}
+use Rattle.machine.specs.Step.{stateWith, withGathered, passesEnd, dueWith, after, machine, missing, whyNot}
+use Rattle.machine.specs.HalfFeeds.{taken-why, stoppedAt, feed-taken, feed-stops, feed-rest}
 use Rattle.machine.specs.StepValid.{after-valid, withGathered-valid}
 use Rattle.logger.specs.declared.Half.{Half}
 use Rattle.logger.specs.declared.Walked.{Walked}
-use Rattle.logger.specs.Feed.{stateWith, missing, whyNot, walkedWith, CompleteReady, HalfIs, FedIs}
-use Rattle.logger.proofs.HalfFeeds.{taken-why, stoppedAt, feed-taken, feed-stops, feed-rest, share-in, share-most, share-completes, share-leaves}
+use Rattle.logger.specs.Feed.{walkedWith, CompleteReady, HalfIs, FedIs}
+use Rattle.logger.proofs.Shares.{share-in, share-most, share-completes, share-leaves}
 
 -- what is fed so far, and what is left
 pub record Going (st₀ : State) (block : List ℤ) (lent out : List ℕ) (st : State) (at written : ℕ) : Type 0 where

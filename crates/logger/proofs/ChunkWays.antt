@@ -24,9 +24,10 @@ use Rattle.image.specs.declared.State.{State}
 use Rattle.image.specs.ImageValid.{ValidState}
 use Rattle.greedy.specs.Greedy.{Fed, joined, fedBy}
 use Rattle.greedy.specs.GreedyLaws.{andThen, joined-joined, fedBy-append, fedBy-whole, fedBy-most, fedBy-fits}
-use Rattle.machine.specs.Step.{machine}
+use Rattle.machine.specs.Step.{stateWith, machine}
+use Rattle.quiet.specs.Quiet.{QuietIs}
 use Rattle.logger.specs.declared.Walked.{Walked}
-use Rattle.logger.specs.Feed.{stateWith, FedIs}
+use Rattle.logger.specs.Feed.{FedIs}
 use Rattle.logger.proofs.BlockWays.{Going, going-first, going-last}
 
 module _ (st₀ : State) (block : List ℤ) (lent out : List ℕ) (st : State) (at written : ℕ) (g : Going st₀ block lent out st at written) where
@@ -166,6 +167,31 @@ module _ (s : Settings) (w₀ b lent : List ℕ) (g₀ : Gatherer) (d₀ : Detec
   module _ (w out : List ℕ) (g : Gatherer) (d : Detector) (at written : ℕ) (inv : OnBytes w out g d at written) where
     pub bytes-end : length b / 2 ≤ at → FedIs (stateWith s g₀ d₀ w₀) (samplesOf b) lent (stateWith s g d w) at written 0 out
     bytes-end all = chunks-end (stateWith s g₀ d₀ w₀) (samplesOf b) lent out (stateWith s g d w) at written (inv .going) (omega (arith, length-samples b))
+
+    -- a quiet run in front of what is left
+    pub bytes-run : (n : ℕ) (g₁ : Gatherer) (d₁ : Detector) (w₁ : List ℕ) → length w₁ ≡ length w →
+        QuietIs (stateWith s g d w) (samplesOf (take (length b - 2 * at) (drop (2 * at) b))) n (stateWith s g₁ d₁ w₁) → OnBytes w₁ out g₁ d₁ (at + n) written
+    bytes-run n g₁ d₁ w₁ wide is =
+        let go = inv .going in
+        let rest-is : samplesOf (take (length b - 2 * at) (drop (2 * at) b)) ≡ drop at (samplesOf b) =
+        ap samplesOf (lent-is (2 * at) b) ∙ samples-drop at b (omega (arith, inv .inside)) in
+        let quiet : QuietIs (stateWith s g d w) (drop at (samplesOf b)) n (stateWith s g₁ d₁ w₁) =
+        subst (λ (xs : List ℤ). QuietIs (stateWith s g d w) xs n (stateWith s g₁ d₁ w₁)) rest-is is in
+        on w₁ out g₁ d₁ (at + n) written
+        (record {
+          records = go .records;
+          valid = quiet .valid;
+          at-in = omega (arith, quiet .inside, length-drop at (samplesOf b), go .at-in);
+          fits = go .fits;
+          fed =
+              go .fed
+              ∙ ap (joined at (go .records)) (quiet .fed (room lent - written))
+              ∙ joined-joined machine at n (go .records) [] (fedBy machine (stateWith s g₁ d₁ w₁) (drop n (drop at (samplesOf b))) (room lent - written))
+              ∙ (λ i. joined (at + n) (append-nil (go .records) i) (fedBy machine (stateWith s g₁ d₁ w₁) (drop-drop n at (samplesOf b) i) (room lent - written)));
+          count = go .count;
+          bytes = go .bytes;
+        })
+        (inv .long) (wide ∙ inv .wide)
 
     module _ (k : ℕ) (inside : at + k ≤ length b / 2) (places read : List ℤ) (many : length read ≡ k)
         (read-is : read ≡ samplesOf (take (2 * at + 2 * k - 2 * at) (drop (2 * at) b))) (last : Walked) (w₁ part : List ℕ)

@@ -29,9 +29,9 @@ use Rattle.detection.specs.declared.Tried.{Tried}
 use Rattle.detection.specs.DetectionValid.{ValidDetector}
 use Rattle.detection.specs.DetectionSteps.{Suits, Ready, TriedBy}
 use Rattle.image.specs.declared.State.{State}
-use Rattle.machine.specs.Step.{withValues, dueOn, outOf, withGathered, passesEnd, dueWith, after}
+use Rattle.machine.specs.Step.{stateWith, withValues, dueOn, outOf, withGathered, passesEnd, dueWith, after, missing, whyNot}
 use Rattle.logger.specs.declared.Half.{Half}
-use Rattle.logger.specs.Feed.{stateWith, missing, whyNot, refusedHalf, CompleteReady, HalfIs}
+use Rattle.logger.specs.Feed.{refusedHalf, CompleteReady, HalfIs}
 
 -- the scaled limits of valid settings
 limit-le : (s : Settings) (limit : ℕ) → ValidSettings s → limit ≤ 600 → limit * windowLength s * s .declared / 10000 ≤ 3774873

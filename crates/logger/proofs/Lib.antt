@@ -1,4 +1,4 @@
 pub mod HalfWays
-pub mod HalfFeeds
+pub mod Shares
 pub mod BlockWays
 pub mod ChunkWays

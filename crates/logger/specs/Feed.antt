@@ -6,7 +6,6 @@ use lib.ListN.{length}
 use lib.IntN.{ℤ}
 use Rattle.settings.specs.declared.Settings.{Settings}
 use Rattle.settings.specs.declared.Scaled.{Scaled}
-use Rattle.settings.specs.Notation.{_<ᵇ_, if_then_else_}
 use Rattle.settings.specs.Settings.{scaledOf}
 use Rattle.reading.specs.Values.{squares}
 use Rattle.reading.specs.Changes.{sum as sumOf}
@@ -19,21 +18,10 @@ use Rattle.image.specs.declared.State.{State}
 use Rattle.image.specs.declared.Answer.{Answer}
 use Rattle.image.specs.Image.{restoredBy}
 use Rattle.image.specs.ImageValid.{ValidState}
-use Rattle.machine.specs.Step.{passesEnd, dueWith, after}
+use Rattle.machine.specs.Step.{stateWith, dueWith, after, missing, whyNot}
 use Rattle.machine.specs.Calls.{fedWith}
 use Rattle.logger.specs.declared.Half.{Half}
 use Rattle.logger.specs.declared.Walked.{Walked}
-
-abbrev pub stateWith : Settings → Gatherer → Detector → List ℕ → State
-stateWith s g d w = record { settings = s; gatherer = g; detector = d; window = w }
-
--- the samples that the half-cycle in progress still lacks
-abbrev pub missing : State → ℕ
-missing st = st .settings .samples - st .gatherer .count
-
--- why the samples that complete it, with the sum of squares e, are not taken: 2 past V's end, 1 no room; 0 where they are
-abbrev pub whyNot : State → ℕ → ℕ → ℕ
-whyNot st e room = if passesEnd st (missing st) e then 2 else if room <ᵇ length (dueWith st (missing st) e) then 1 else 0
 
 -- what is left where they are not
 abbrev pub refusedHalf : Gatherer → Detector → ℕ → ℕ → Half

@@ -17,8 +17,8 @@ ghost use Rattle.samples.specs.Samples.{samplesOf};
 ghost use Rattle.settings.specs.SettingsLaws.{ValidSettings};
 ghost use Rattle.image.specs.Image.{saveAnswer, savedBytes};
 ghost use Rattle.image.specs.ImageValid.{ValidState};
-ghost use Rattle.machine.specs.Step.{fresh, readingsOf, phaseNumberOf};
-ghost use Rattle.logger.specs.Feed.{stateWith, refusedHalf, walkedWith, CompleteReady, HalfIs, FedIs, RestoredIs};
+ghost use Rattle.machine.specs.Step.{stateWith, fresh, readingsOf, phaseNumberOf};
+ghost use Rattle.logger.specs.Feed.{refusedHalf, walkedWith, CompleteReady, HalfIs, FedIs, RestoredIs};
 
 // What completing a half-cycle leaves of the logger beside the window, how many records were written, and why it was not taken, or 0.
 struct Half {
@@ -37,9 +37,6 @@ struct Walked {
     written: usize,
     why: u32,
 }
-
-// V's end.
-const LAST_VALUE: u64 = 4_294_967_295;
 
 // Nothing is changed, and why.
 fn refused(gatherer: Gatherer, detector: Detector, sum: u64, why: u32) -> Half
@@ -83,7 +80,7 @@ fn complete(
         };
     }
     let count = detector.count;
-    if count == LAST_VALUE {
+    if count == Detector::LAST {
         return refused(gatherer, detector, sum, 2);
     }
     let size = settings.window_length();
@@ -178,14 +175,24 @@ fn walk(
     end_walk(g, d, &block[at..], at + share.count, written, 0)
 }
 
-// How many of the samples that are left are decoded at a time.
-fn chunk_of(left: usize) -> usize
-    ensures { λ r. ⌜ r ≡ min left 1024 ⌝ }
+// How many of the samples that are left are decoded at a time: those that complete the half-cycle in progress, or whole half-cycles, so that a quiet run can
+// begin behind them.
+fn chunk_of(left: usize, gatherer: Gatherer, samples: u32) -> usize
+    requires { ⌜ (gatherer .count < samples) × (samples ≤ 256) ⌝ }
+    ensures { λ r. ⌜ (r ≤ left) × (r ≤ 1024) × (min left 1 ≤ r) ⌝ }
 {
-    if left < 1024 { left } else { 1024 }
+    let missing = (samples - gatherer.count) as usize;
+    if left < missing {
+        return left;
+    }
+    if 0 < gatherer.count {
+        return missing;
+    }
+    let whole = 1024 - 1024 % samples as usize;
+    if left < whole { left } else { whole }
 }
 
-// The samples of bytes, chunk by chunk, each decoded on the stack.
+// The samples of bytes: quiet runs straight from the bytes, and between them chunks that are decoded on the stack.
 fn walk_bytes(
     settings: Settings,
     gatherer: Gatherer,
@@ -204,7 +211,12 @@ fn walk_bytes(
     let mut at: usize = 0;
     let mut written: usize = 0;
     while at < count {
-        let size = chunk_of(count - at);
+        let rest = 2 * at;
+        let run = quiet::take_quiet(settings, g, d, window, &bytes[rest..]);
+        g = run.gatherer;
+        d = run.detector;
+        at += run.taken;
+        let size = chunk_of(count - at, g, settings.samples);
         let start = 2 * at;
         let end = start + 2 * size;
         let behind = 20 * written;

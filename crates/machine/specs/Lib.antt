@@ -3,3 +3,4 @@ pub mod StepValid
 pub mod StepFollows
 pub mod StepHalf
 pub mod Calls
+pub mod HalfFeeds

@@ -12,10 +12,12 @@ use Rattle.reading.specs.declared.Readings.{Readings}
 use Rattle.reading.specs.Values.{square, values}
 use Rattle.reading.specs.Changes.{windowSum}
 use Rattle.reading.specs.Feed.{lastValue}
+use Rattle.rms.specs.declared.Gatherer.{Gatherer}
 use Rattle.rms.specs.Gather.{noSample, gathered, out, gathererOf}
 use Rattle.window.specs.Window.{pushed, windowOf}
 use Rattle.rvc.specs.declared.Phase.{Phase}
 use Rattle.rvc.specs.declared.Phase.the-variants.{Filling, Unsettled, Steady, Changing}
+use Rattle.detection.specs.declared.Detector.{Detector}
 use Rattle.detection.specs.Detection.{noValue, detectorAfter, dueAt, detectorOf}
 use Rattle.image.specs.declared.State.{State}
 use Rattle.greedy.specs.Greedy.{Machine}
@@ -23,6 +25,10 @@ use Rattle.greedy.specs.Greedy.{Machine}
 -- a fresh logger: it has taken no sample
 unfoldable pub fresh : Settings → State
 fresh s = record { settings = s; gatherer = noSample; detector = noValue; window = replicate 120 0 }
+
+-- a state in the parts that the code keeps it in
+abbrev pub stateWith : Settings → Gatherer → Detector → List ℕ → State
+stateWith s g d w = record { settings = s; gatherer = g; detector = d; window = w }
 
 -- one value more; values, newest first; the events due at them
 abbrev pub withValue : ℕ → State → State
@@ -62,6 +68,14 @@ dueWith st n e = dueOn (outOf st n e) st
 
 unfoldable pub after : State → ℕ → ℕ → State
 after st n e = withValues (outOf st n e) (withGathered st n e)
+
+-- the samples that the half-cycle in progress still lacks
+abbrev pub missing : State → ℕ
+missing st = st .settings .samples - st .gatherer .count
+
+-- why the samples that complete it, with the sum of squares e, are not taken: 2 past V's end, 1 no room; 0 where they are
+abbrev pub whyNot : State → ℕ → ℕ → ℕ
+whyNot st e room = if passesEnd st (missing st) e then 2 else if room <ᵇ length (dueWith st (missing st) e) then 1 else 0
 
 -- sample by sample
 abbrev pub machine : Machine State

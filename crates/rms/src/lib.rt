@@ -1,7 +1,9 @@
 // From samples to values: sums of squares, the integer root, the RMS value of two half-cycles, and the gatherer of half-cycles.
 ghost use mathlib.Core.Path.{_≡_};
-ghost use Prim.Native.Nat.{_+_, _*_, _/_, _^_, _≤_, _<_};
-ghost use lib.ListN.{length};
+ghost use mathlib.Core.Bool.{true};
+ghost use Prim.Native.Nat.{_+_, _-_, _*_, _/_, _^_, _≤_, _<_};
+ghost use lib.ListN.{length, drop, getD};
+ghost use Rattle.samples.specs.Samples.{sampleOf, samplesOf};
 ghost use Rattle.reading.specs.Values.{square as squareOf, squares, root as rootOf, rms};
 ghost use Rattle.rms.specs.Gather.{noSample, withPart, withHalf, shareOf, Ready, gatheredSample};
 
@@ -13,22 +15,69 @@ pub fn square(sample: i16) -> u32
     (wide * wide) as u32
 }
 
-// The sum of squares of the samples of at most one half-cycle. The high and low halves of the squares are summed by themselves, in 4 bytes each,
-// so that the loop runs in lanes of 4 bytes.
+// The sum of squares of the samples of at most one half-cycle. Two squares are added before they are split, since processors multiply samples and add the
+// products of neighbours in one step; high and low halves are summed by themselves, in 4 bytes each, so that the loop runs in lanes of 4 bytes.
 pub fn sum_squares(part: &[i16]) -> u64
     requires { ⌜ length (now part) ≤ 256 ⌝ }
     ensures { λ r. ⌜ (r ≡ squares (now (part .entry))) × (r ≤ length (now (part .entry)) * 2 ^ 30) ⌝ }
 {
     let mut low: u32 = 0;
     let mut high: u32 = 0;
-    let mut i = 0;
-    while i < part.len() {
-        let square = square(part[i]);
-        low += square % 65536;
-        high += square / 65536;
-        i += 1;
+    let pairs = part.len() / 2;
+    let mut j = 0;
+    while j < pairs {
+        let i = 2 * j;
+        let next = i + 1;
+        let two = square(part[i]) + square(part[next]);
+        low += two % 65536;
+        high += two / 65536;
+        j += 1;
     }
-    65536 * (high as u64) + (low as u64)
+    let sum = 65536 * (high as u64) + (low as u64);
+    let even = 2 * pairs;
+    if even < part.len() {
+        return sum + square(part[even]) as u64;
+    }
+    sum
+}
+
+// The square of the sample that begins at byte `at`.
+fn square_at(bytes: &[u8], at: usize) -> u32
+    requires { ⌜ at + 1 < length (now bytes) ⌝ }
+    ensures { λ r. ⌜ (r ≡ squareOf (sampleOf (getD (now (bytes .entry)) at 0) (getD (now (bytes .entry)) (at + 1) 0))) × (r ≤ 2 ^ 30) ⌝ }
+{
+    square(samples::sample(bytes[at], bytes[at + 1]))
+}
+
+// The square of the one sample that may be left from byte `at` on, or 0.
+fn square_left(bytes: &[u8], at: usize) -> u32
+    requires { ⌜ (at ≤ length (now bytes)) × (length (now bytes) < at + 4) ⌝ }
+    ensures { λ r. ⌜ (r ≡ squares (samplesOf (drop at (now (bytes .entry))))) × (r ≤ (length (now (bytes .entry)) - at) / 2 * 2 ^ 30) ⌝ }
+{
+    if bytes.len() - at < 2 {
+        return 0;
+    }
+    square_at(bytes, at)
+}
+
+// The sum of squares of the samples that bytes are, of at most one half-cycle. Two squares are added before they are split: processors multiply
+// samples and add the products of neighbours in one step.
+pub fn sum_squares_in(bytes: &[u8]) -> u64
+    requires { ⌜ length (now bytes) ≤ 512 ⌝ }
+    ensures { λ r. ⌜ (r ≡ squares (samplesOf (now (bytes .entry)))) × (r ≤ length (now (bytes .entry)) / 2 * 2 ^ 30) ⌝ }
+{
+    let pairs = bytes.len() / 4;
+    let mut low: u32 = 0;
+    let mut high: u32 = 0;
+    let mut k = 0;
+    while k < pairs {
+        let at = 4 * k;
+        let pair = square_at(bytes, at) + square_at(bytes, at + 2);
+        low += pair % 65536;
+        high += pair / 65536;
+        k += 1;
+    }
+    65536 * (high as u64) + (low as u64) + (square_left(bytes, 4 * pairs) as u64)
 }
 
 // The greatest number whose square is at most n: twice the root of its quarter, or one more.
@@ -44,6 +93,59 @@ pub fn root(n: u64) -> u64
     }
 }
 
+// One of Newton's steps towards the root of n.
+fn nearer(n: u64, from: u64) -> u64
+    requires { ⌜ (n < 2 ^ 40) × (from < 2 ^ 42) ⌝ }
+    ensures { λ r. ⌜ r < 2 ^ 42 ⌝ }
+{
+    let above = from + 1;
+    (above + n / above) / 2
+}
+
+// A number near the root of n, from a line that runs near the roots: the root, or one more. It is tested where it is used.
+fn near_root(n: u64) -> u64
+    requires { ⌜ n < 2 ^ 40 ⌝ }
+    ensures { λ r. ⌜ r < 2 ^ 42 ⌝ }
+{
+    let half = (65 - u64::leading_zeros(n)) / 2;
+    let line = 171 * ((n >> half) % 1_099_511_627_776) + (91 << half) % 1_099_511_627_776;
+    nearer(n, nearer(n, line / 256))
+}
+
+// A number, or one less where its square is above n.
+fn lowered(n: u64, number: u64) -> u64
+    requires { ⌜ number < 2 ^ 20 ⌝ }
+    ensures { λ r. ⌜ r < 2 ^ 20 ⌝ }
+{
+    if n < number * number {
+        number - 1
+    } else {
+        number
+    }
+}
+
+// The root, more quickly: a number near it, tested, and `root` where the test fails.
+fn quick_root(n: u64) -> u64
+    ensures { λ r. ⌜ r ≡ rootOf n ⌝ }
+{
+    if 1_099_511_627_776 <= n {
+        return root(n);
+    }
+    let near = near_root(n);
+    if 1_048_576 <= near {
+        return root(n);
+    }
+    let low = lowered(n, near);
+    if n < low * low {
+        return root(n);
+    }
+    let next = low + 1;
+    if next * next <= n {
+        return root(n);
+    }
+    low
+}
+
 // 256 times the mean square of two neighbouring half-cycles with these sums of squares.
 fn scaled_mean_square(samples: u64, first: u64, second: u64) -> u64
     requires { ⌜ (0 < samples) × (samples ≤ 256) × (first ≤ samples * 2 ^ 30) × (second ≤ samples * 2 ^ 30) ⌝ }
@@ -57,7 +159,50 @@ pub fn rms_value(samples: u32, first: u64, second: u64) -> u32
     requires { ⌜ (0 < samples) × (samples ≤ 256) × (first ≤ samples * 2 ^ 30) × (second ≤ samples * 2 ^ 30) ⌝ }
     ensures { λ r. ⌜ (r ≡ rms samples first second) × (r ≤ 524288) ⌝ }
 {
-    root(scaled_mean_square(samples as u64, first, second)) as u32
+    quick_root(scaled_mean_square(samples as u64, first, second)) as u32
+}
+
+// A number that is often the root of total / wide, where `from` is near it: one of Newton's steps, and one less where that is too great.
+fn near_value(wide: u64, total: u64, from: u64) -> u64
+    requires { ⌜ (0 < wide) × (wide ≤ 256) × (total ≤ 2 ^ 46) × (from < 2 ^ 32) ⌝ }
+    ensures { λ r. ⌜ r ≤ 524288 ⌝ }
+{
+    if from == 0 {
+        return 0;
+    }
+    let above = (from + total / (wide * from)) / 2;
+    if 524_288 < above {
+        return 0;
+    }
+    if total < wide * (above * above) {
+        return above - 1;
+    }
+    above
+}
+
+// Whether a number is that root, so that nothing need be known of where it came from.
+fn is_value(wide: u64, total: u64, near: u64) -> bool
+    requires { ⌜ (wide ≤ 256) × (near ≤ 524288) ⌝ }
+    ensures { λ r. ⌜ (r ≡ true → (wide * (near * near) ≤ total) × (total < wide * ((near + 1) * (near + 1)))) ⌝ }
+{
+    if total < wide * (near * near) {
+        return false;
+    }
+    total < wide * ((near + 1) * (near + 1))
+}
+
+// The RMS value again, tried near a guess first, as values change little from one to the next: the root is taken only where that misses it.
+pub fn rms_near(samples: u32, first: u64, second: u64, guess: u32) -> u32
+    requires { ⌜ (0 < samples) × (samples ≤ 256) × (first ≤ samples * 2 ^ 30) × (second ≤ samples * 2 ^ 30) ⌝ }
+    ensures { λ r. ⌜ (r ≡ rms samples first second) × (r ≤ 524288) ⌝ }
+{
+    let wide = samples as u64;
+    let total = 128 * (first + second);
+    let near = near_value(wide, total, guess as u64);
+    if is_value(wide, total, near) {
+        return near as u32;
+    }
+    rms_value(samples, first, second)
 }
 
 // What is kept of the samples.

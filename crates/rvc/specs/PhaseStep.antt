@@ -36,7 +36,7 @@ limitOf-is s Unsettled = refl
 limitOf-is s Steady = refl
 limitOf-is s (Changing c) = refl
 
-limitOf-le : (s : Settings) (p : Phase) → ValidSettings s → limitOf (scaledOf s) p ≤ 3774873
+pub limitOf-le : (s : Settings) (p : Phase) → ValidSettings s → limitOf (scaledOf s) p ≤ 3774873
 limitOf-le s p valid = rw (limitOf-is s p) (omega (arith, mul-le-mul (mul-le-mul (most p) (windowLength-most s)) (valid .declared-most)))
   where
     most : (p : Phase) → limitIn s p ≤ 600

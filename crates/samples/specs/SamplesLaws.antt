@@ -1,5 +1,5 @@
 -- The laws of samples in bytes.
-use mathlib.Core.Path.{_≡_, refl, sym, _∙_, ap}
+use mathlib.Core.Path.{_≡_, refl, sym, _∙_, ap, ap₂}
 use mathlib.Core.List.{List, [], _∷_, _++_, append-assoc, append-nil}
 use Prim.Native.Nat.{ℕ, zero, suc, _+_, _-_, _*_, _/_, _≤_, _<_, _^_}
 use native.Mathlib.Omega.{arith}
@@ -66,21 +66,24 @@ module _ (at : ℕ) (b : List ℕ) (h : 2 * at ≤ length b) where
   pub samples-take : samplesOf (take (2 * at) b) ≡ take at (samplesOf b)
   samples-take = sym (ap (take at) both ∙ take-at (samplesOf (take (2 * at) b)) (samplesOf (drop (2 * at) b)) at long)
 
--- `decode` at work: the samples read so far, and those of what is left
-two-more : (b : List ℕ) (k : ℕ) → 2 * k + 1 < length b → drop (2 * k) b ≡ getD b (2 * k) 0 ∷ getD b (2 * k + 1) 0 ∷ drop (2 * (k + 1)) b
-two-more b k h =
-    let e : suc (2 * k + 1) ≡ 2 * (k + 1) = omega arith in
-    let f : suc (2 * k) ≡ 2 * k + 1 = omega arith in
-    drop-cons b (2 * k) 0 (omega arith)
-    ∙ ap (λ (l : List ℕ). getD b (2 * k) 0 ∷ l)
-    (ap (λ (j : ℕ). drop j b) f ∙ drop-cons b (2 * k + 1) 0 h ∙ ap (λ (j : ℕ). getD b (2 * k + 1) 0 ∷ drop j b) e)
+-- the samples from byte i on: that of two bytes, and those after them
+pub samples-from : (b : List ℕ) (i : ℕ) → i + 1 < length b → samplesOf (drop i b) ≡ sampleOf (getD b i 0) (getD b (i + 1) 0) ∷ samplesOf (drop (i + 2) b)
+samples-from b i h =
+    let e : suc (i + 1) ≡ i + 2 = omega arith in
+    let two : drop i b ≡ getD b i 0 ∷ getD b (i + 1) 0 ∷ drop (i + 2) b =
+    drop-cons b i 0 (omega arith)
+    ∙ ap (λ (l : List ℕ). getD b i 0 ∷ l)
+    (ap (λ (j : ℕ). drop j b) (sym (add-one i)) ∙ drop-cons b (i + 1) 0 h ∙ ap (λ (j : ℕ). getD b (i + 1) 0 ∷ drop j b) e) in
+    ap samplesOf two ∙ samples-cons _ _ _
 
+-- `decode` at work: the samples read so far, and those of what is left
 pub decode-step : (k : ℕ) (out : List ℤ) (b : List ℕ) (t : List ℤ) (x : ℤ) → k < length out → 2 * k + 1 < length b
     → x ≡ sampleOf (getD b (2 * k) 0) (getD b (2 * k + 1) 0)
     → take k out ++ samplesOf (drop (2 * k) b) ≡ t → take (k + 1) (set out k x) ++ samplesOf (drop (2 * (k + 1)) b) ≡ t
 decode-step k out b t x h l e inv =
+    let f : 2 * k + 2 ≡ 2 * (k + 1) = omega arith in
     let s : samplesOf (drop (2 * k) b) ≡ x ∷ samplesOf (drop (2 * (k + 1)) b) =
-    ap samplesOf (two-more b k l) ∙ samples-cons _ _ _ ∙ ap (λ (y : ℤ). y ∷ samplesOf (drop (2 * (k + 1)) b)) (sym e) in
+    samples-from b (2 * k) l ∙ ap₂ (λ (y : ℤ) (j : ℕ). y ∷ samplesOf (drop j b)) (sym e) f in
     let i₂ : take k out ++ (x ∷ samplesOf (drop (2 * (k + 1)) b)) ≡ t = ap (λ (q : List ℤ). take k out ++ q) (sym s) ∙ inv in
     rw (add-one k, take-suc-set out k x h, append-assoc) (rw add-one at i₂)
 

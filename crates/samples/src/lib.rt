@@ -5,7 +5,7 @@ ghost use lib.ListN.{length};
 ghost use Rattle.samples.specs.Samples.{sampleOf, samplesOf};
 
 // The sample of two bytes.
-fn sample(low: u8, high: u8) -> i16
+pub fn sample(low: u8, high: u8) -> i16
     ensures { λ r. ⌜ r ≡ sampleOf low high ⌝ }
 {
     let n = (low as u16) + 256 * (high as u16);

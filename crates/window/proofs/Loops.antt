@@ -1,14 +1,19 @@
--- What a turn of this crate's loops does: one value more is moved, summed or tested; and what the last store of `push` makes of the moved values.
-use mathlib.Core.Path.{_≡_, refl, ap, _∙_}
-use mathlib.Core.Bool.{Bool, _&&_, and-true}
+-- What a turn of this crate's loops does: one value more is moved, summed, tested, bounded or copied; and what the last store of `push` makes of the moved values.
+use mathlib.Core.Path.{_≡_, refl, ap, sym, _∙_}
+use mathlib.Core.Bool.{Bool, true, _&&_, and-true}
 use mathlib.Core.List.{List, [], _∷_, _++_}
-use Prim.Native.Nat.{ℕ, zero, suc, _+_, _<_}
+use Prim.Native.Nat.{ℕ, zero, suc, _+_, _<_, min, max}
 use native.Mathlib.Omega.{arith}
 use native.Mathlib.Numerals.{add-one}
 use lib.ListN.{length, take, drop, set, getD}
-use lib.Seq.{take-suc}
+use lib.Seq.{take-suc, take-suc-set}
 use Rattle.settings.specs.Notation.{all}
+use Rattle.settings.specs.NotationLaws.{and-true as both}
 use Rattle.reading.specs.Changes.{sum}
+use Rattle.window.specs.declared.Bounds.{Bounds}
+use Rattle.window.specs.Range.{between}
+use Rattle.window.specs.Bounds.{Holds, widened}
+use Rattle.window.specs.BoundsLaws.{holds-widened, between-widened}
 use Rattle.window.specs.WindowLaws.{sum-append, all-append}
 
 -- w with the values 1 to i each moved down by one place
@@ -40,3 +45,16 @@ module _ (l : List ℕ) (i : ℕ) (h : i < length l) where
   all-more test =
       rw (add-one, take-suc l i 0 h)
       (all-append test (take i l) (getD l i 0 ∷ []) ∙ ap (λ (b : Bool). all test (take i l) && b) (and-true (test (getD l i 0))))
+
+  -- lo and hi are what `lower` and `higher` answer
+  pub holds-more : (b : Bounds) (lo hi : ℕ) → lo ≡ min (b .least) (getD l i 0) → hi ≡ max (b .greatest) (getD l i 0) → Holds b (take i l) →
+      all (between lo hi) (take (i + 1) l) ≡ true
+  holds-more b lo hi low high e =
+      rw (low, high)
+      (all-more (between (widened b (getD l i 0) .least) (widened b (getD l i 0) .greatest))
+      ∙ both (holds-widened b (take i l) (getD l i 0) e) (between-widened b (getD l i 0)))
+
+  pub copied-more : (to : List ℕ) → length to ≡ length l → take i to ≡ take i l → take (i + 1) (set to i (getD l i 0)) ≡ take (i + 1) l
+  copied-more to long e =
+      rw add-one
+      (take-suc-set to i (getD l i 0) (omega arith) ∙ ap (λ (t : List ℕ). t ++ (getD l i 0 ∷ [])) e ∙ sym (take-suc l i 0 h))

@@ -4,3 +4,5 @@ pub mod WindowFollows
 pub mod WindowValid
 pub mod Range
 pub mod RangeLaws
+pub mod Bounds
+pub mod BoundsLaws

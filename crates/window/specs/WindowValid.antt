@@ -5,9 +5,9 @@ use mathlib.Core.List.{List, [], _∷_, _++_}
 use Prim.Native.Nat.{ℕ, zero, suc, _+_, _-_, _*_, min, _≤_, _<_}
 use native.Mathlib.Omega.{arith}
 use lib.ListN.{length, take, drop, set, replicate, getD, take-append-drop, length-append, length-drop, length-set, length-replicate}
-use lib.Seq.{getD-set-same, getD-set-other, getD-append-add, getD-drop, length-take-le}
-use borrow.Author.Tests.{eqb-true, eqb-false, ltb-true, ltb-false}
-use Rattle.settings.specs.Notation.{_<ᵇ_, _≡ᵇ_, if_then_else_}
+use lib.Seq.{getD-set-other, getD-append-add, getD-drop, length-take-le}
+use borrow.Author.Tests.{ltb-true, ltb-false}
+use Rattle.settings.specs.Notation.{_<ᵇ_, if_then_else_}
 use Rattle.reading.specs.Changes.{sum}
 use Rattle.window.specs.Window.{pushed, leaving, windowOf}
 use Rattle.window.specs.WindowLaws.{sum-append}
@@ -29,7 +29,7 @@ small-append [] ys p q i = q i
 small-append (x ∷ xs) ys p q zero = p zero
 small-append (x ∷ xs) ys p q (suc i) = small-append xs ys (λ j. p (suc j)) q i
 
-small-take : (n : ℕ) (l : List ℕ) → Small l → Small (take n l)
+pub small-take : (n : ℕ) (l : List ℕ) → Small l → Small (take n l)
 small-take zero l p i = omega arith
 small-take (suc n) [] p i = omega arith
 small-take (suc n) (x ∷ l) p zero = p zero
@@ -42,21 +42,21 @@ small-cons : (r : ℕ) (l : List ℕ) → r ≤ 524288 → Small l → Small (r 
 small-cons r l h p zero = h
 small-cons r l h p (suc i) = p i
 
+pub small-set : (l : List ℕ) (h r : ℕ) → Small l → r ≤ 524288 → Small (set l h r)
+small-set [] h r p q i = p i
+small-set (x ∷ l) zero r p q zero = q
+small-set (x ∷ l) zero r p q (suc i) = p (suc i)
+small-set (x ∷ l) (suc h) r p q zero = p zero
+small-set (x ∷ l) (suc h) r p q (suc i) = small-set l h r (λ j. p (suc j)) q i
+
 -- a value more, while places are free
 filling-valid : (n v r : ℕ) (w : List ℕ) → n ≤ 120 → v < n → r ≤ 524288 → ValidWindow n v w → ValidWindow n (suc v) (set w v r)
 filling-valid n v r w fits few small valid =
     record {
       size = length-set w v r ∙ valid .size;
-      most = λ i. at-most i (i ≡ᵇ v) refl;
+      most = small-set w v r (valid .most) small;
       unused = λ i h. getD-set-other w v i r 0 (omega arith) ∙ valid .unused i (omega arith);
     }
-  where
-    at-most : (i : ℕ) (b : Bool) → (i ≡ᵇ v) ≡ b → getD (set w v r) i 0 ≤ 524288
-    at-most i true e =
-        let q : i ≡ v = eqb-true i v e in
-        let z : length w ≡ 120 = valid .size in
-        rw (q, getD-set-same w v r 0 (omega arith)) small
-    at-most i false e = rw (getD-set-other w v i r 0 (eqb-false i v e)) (valid .most i)
 
 -- and once all are used
 full-valid : (m v r : ℕ) (w : List ℕ) → suc m ≤ 120 → suc m ≤ v → r ≤ 524288 → ValidWindow (suc m) v w →
@@ -112,7 +112,7 @@ windowOf-valid n (r ∷ older) some fits small =
     (pushed-valid n (length older) r (windowOf n older) some fits (small 0) (windowOf-valid n older some fits (λ i. small (suc i))))
 
 -- the sum of the window, and of all places
-sum-small : (l : List ℕ) → Small l → sum l ≤ length l * 524288
+pub sum-small : (l : List ℕ) → Small l → sum l ≤ length l * 524288
 sum-small [] p = omega arith
 sum-small (x ∷ l) p = omega (arith, p zero, sum-small l (λ j. p (suc j)))
 
@@ -126,7 +126,7 @@ sum-zeros : (l : List ℕ) → ((i : ℕ) → getD l i 0 ≡ 0) → sum l ≡ 0
 sum-zeros [] p = refl
 sum-zeros (x ∷ l) p = omega (arith, p zero, sum-zeros l (λ j. p (suc j)))
 
-sum-split : (n : ℕ) (l : List ℕ) → sum l ≡ sum (take n l) + sum (drop n l)
+pub sum-split : (n : ℕ) (l : List ℕ) → sum l ≡ sum (take n l) + sum (drop n l)
 sum-split n l = ap sum (sym (take-append-drop n l)) ∙ sum-append (take n l) (drop n l)
 
 pub sum-all : (n v : ℕ) (w : List ℕ) → ValidWindow n v w → sum (take n w) ≡ sum w
@@ -135,7 +135,7 @@ sum-all n v w valid =
     omega (arith, sum-split n w)
 
 -- the sum from value to value: the new value comes, and the one that leaves goes
-sum-set : (w : List ℕ) (i r : ℕ) → i < length w → sum (set w i r) + getD w i 0 ≡ sum w + r
+pub sum-set : (w : List ℕ) (i r : ℕ) → i < length w → sum (set w i r) + getD w i 0 ≡ sum w + r
 sum-set [] i r h = absurd (omega arith)
 sum-set (x ∷ w) zero r h = omega arith
 sum-set (x ∷ w) (suc i) r h = omega (arith, sum-set w i r (omega arith))

@@ -1,9 +1,9 @@
 //! Speed of begin and advance: the fast logger and, with the feature, the proved library.
 //!
-//! bench [RUNS]
+//! bench [ROUNDS]
 //!
-//! Medians of RUNS runs (9 if not given), and in brackets the least: on a busy machine the least is
-//! the better guide. The implementations take turns within each run.
+//! The implementations take turns in short rounds (61 if not given), in changing order, so that a
+//! machine whose pace wanders wanders for both. Told are medians, and in brackets the least.
 
 use outside::hosts::{hosts, Host};
 use outside::rng::Rng;
@@ -11,6 +11,9 @@ use std::hint::black_box;
 use std::time::Instant;
 
 const LARGE: usize = 1_000_000;
+const HALVES: usize = 10_000;
+const CALLS: usize = 10_000;
+const FEEDS: [&str; 3] = ["idle", "noisy", "events"];
 
 /// The settings called Q, with another M and U 16000.
 fn settings(m: u32) -> Vec<u8> {
@@ -54,13 +57,64 @@ fn samples(feed: &str, m: usize, count: usize) -> Vec<u8> {
     bytes
 }
 
-/// The median and the least of a list, each divided by `by`.
-fn middle(list: &[f64], by: usize) -> String {
-    let mut list = list.to_vec();
+fn median(mut list: Vec<f64>) -> f64 {
     list.sort_by(|a, b| a.total_cmp(b));
-    let (median, least) = (list[list.len() / 2] / by as f64, list[0] / by as f64);
+    list[list.len() / 2]
+}
+
+/// The median and the least of a list of times, in nanoseconds for one of `by`.
+fn middle(times: &[f64], by: usize) -> String {
+    let least = times.iter().copied().fold(f64::INFINITY, f64::min) / by as f64;
+    let median = median(times.to_vec()) / by as f64;
     let digits = if median < 10.0 { 3 } else { 1 };
     format!("{median:.digits$} ({least:.digits$})")
+}
+
+/// Times of each host, in nanoseconds, from rounds in which they take turns. The first round warms
+/// up and is not counted.
+fn rounds(count: usize, hosts: &[Host], mut one: impl FnMut(usize, &Host) -> f64) -> Vec<Vec<f64>> {
+    let mut times = vec![Vec::new(); hosts.len()];
+    for round in 0..=count {
+        for turn in 0..hosts.len() {
+            let j = (turn + round) % hosts.len();
+            let time = one(j, &hosts[j]);
+            if round > 0 {
+                times[j].push(time);
+            }
+        }
+    }
+    times
+}
+
+/// How many times as long the second host takes: the median over the rounds, and by the least.
+fn ratio(times: &[Vec<f64>]) -> String {
+    let [a, b] = times else { return String::new() };
+    let least = |x: &[f64]| x.iter().copied().fold(f64::INFINITY, f64::min);
+    let by_round = a.iter().zip(b).map(|(a, b)| b / a).collect();
+    format!("{:.2} ({:.2})", median(by_round), least(b) / least(a))
+}
+
+/// Prints a row: for each host a column for each of `by`, then the ratio.
+fn row(name: &str, times: &[Vec<f64>], by: &[usize]) {
+    print!("{name:<22}");
+    for x in times {
+        for &by in by {
+            print!("{:>20}", middle(x, by));
+        }
+    }
+    println!("{:>16}", ratio(times));
+}
+
+/// Prints the heading of such rows.
+fn heading(first: &str, hosts: &[Host], units: &[&str]) {
+    print!("{first:<22}");
+    for host in hosts {
+        for unit in units {
+            let name = if host.name == "logger" { "outside" } else { host.name };
+            print!("{:>20}", format!("{name}, {unit}"));
+        }
+    }
+    println!("{:>16}", if hosts.len() == 2 { "ratio" } else { "" });
 }
 
 /// An image that is well into the feed.
@@ -106,112 +160,77 @@ fn pieces(host: &Host, image: &[u8], bytes: &[u8], piece: usize, records: &mut [
     time
 }
 
-fn line(what: &str, columns: &[String]) {
-    print!("{what:<24}");
-    for x in columns {
-        print!("{x:>36}");
-    }
-    println!();
-}
-
 fn main() {
-    let runs: usize = std::env::args().nth(1).and_then(|x| x.parse().ok()).unwrap_or(9);
+    let count: usize = std::env::args().nth(1).and_then(|x| x.parse().ok()).unwrap_or(61);
     // The stepper is not made for speed.
     let hosts: Vec<Host> = hosts().into_iter().filter(|x| x.name != "stepper").collect();
-    let names: Vec<String> = hosts.iter().map(|x| x.name.to_string()).collect();
-    println!("Medians of {runs} runs (in brackets the least); the implementations take turns in each run.");
     println!(
-        "Buffers: allocated once, written to and read before the first run, used again in all;"
+        "Medians of {count} rounds in which the implementations take turns; in brackets the least."
     );
-    println!("so samples and record room are warm in the cache as far as they fit.");
+    println!(
+        "Buffers: allocated once, written to and read before the first round, used again in all,"
+    );
+    println!("so that samples and record room are warm in the cache as far as they fit.");
     println!(
         "Settings: Q with U 16000 and the M given. Feeds start from an image 2000 half-cycles in."
     );
 
-    println!("\nOne advance over {LARGE} samples: ns per sample | ns per value");
-    line("M, feed (records)", &names);
+    println!("\nLarge blocks: one advance over {LARGE} samples, with room for all records");
+    heading("M, feed (records)", &hosts, &["ns/sample", "ns/value"]);
     for m in [8, 64, 256] {
-        for feed in ["idle", "noisy", "events"] {
+        for feed in FEEDS {
             let bytes = samples(feed, m, LARGE);
             let mut records = vec![1; 20 * 3 * (LARGE / m + 1)];
-            let mut times = vec![Vec::new(); hosts.len()];
             let images: Vec<_> = hosts.iter().map(|x| warmed(x, m, &bytes)).collect();
             let mut written = 0;
-            for run in 0..=runs {
-                for (j, host) in hosts.iter().enumerate() {
-                    let (time, count) = large(host, &images[j], &bytes, &mut records);
-                    written = count;
-                    if run > 0 {
-                        times[j].push(time);
-                    }
-                }
-            }
-            let columns: Vec<String> = times
-                .iter()
-                .map(|x| format!("{} | {}", middle(x, LARGE), middle(x, LARGE / m)))
-                .collect();
-            line(&format!("{m}, {feed} ({written})"), &columns);
+            let times = rounds(count, &hosts, |j, host| {
+                let (time, records) = large(host, &images[j], &bytes, &mut records);
+                written = records;
+                time
+            });
+            row(&format!("{m}, {feed} ({written})"), &times, &[LARGE, LARGE / m]);
         }
     }
 
     println!(
-        "\nOne advance for each half-cycle: ns per sample | ns per value (one value, one advance)"
+        "\nBlocks of one half-cycle: {HALVES} advances, each with one value, room for 4 records"
     );
-    line("M, feed", &names);
+    heading("M, feed", &hosts, &["ns/sample", "ns/value"]);
     for m in [8, 64, 256] {
-        for feed in ["idle", "noisy", "events"] {
-            let halves = 10_000;
-            let bytes = samples(feed, m, halves * m);
+        for feed in FEEDS {
+            let bytes = samples(feed, m, HALVES * m);
             let mut records = vec![1; 80];
-            let mut times = vec![Vec::new(); hosts.len()];
             let images: Vec<_> = hosts.iter().map(|x| warmed(x, m, &bytes)).collect();
-            for run in 0..=runs {
-                for (j, host) in hosts.iter().enumerate() {
-                    let time = pieces(host, &images[j], &bytes, 2 * m, &mut records);
-                    if run > 0 {
-                        times[j].push(time);
-                    }
-                }
-            }
-            let columns: Vec<String> = times
-                .iter()
-                .map(|x| format!("{} | {}", middle(x, halves * m), middle(x, halves)))
-                .collect();
-            line(&format!("{m}, {feed}"), &columns);
+            let times = rounds(count, &hosts, |j, host| {
+                pieces(host, &images[j], &bytes, 2 * m, &mut records)
+            });
+            row(&format!("{m}, {feed}"), &times, &[HALVES * m, HALVES]);
         }
     }
 
-    println!("\nBegin, and advance with an empty block (restore and save): ns per call");
-    line("", &names);
-    let calls = 10_000;
-    let bytes = samples("events", 8, LARGE);
-    let mut columns = [vec![Vec::new(); hosts.len()], vec![Vec::new(); hosts.len()]];
-    let images: Vec<_> = hosts.iter().map(|x| warmed(x, 8, &bytes)).collect();
-    for run in 0..=runs {
-        for (j, host) in hosts.iter().enumerate() {
-            let q = settings(8);
-            let mut image = [0; 620];
-            let start = Instant::now();
-            for _ in 0..calls {
-                assert_eq!((host.begin)(black_box(&q), black_box(&mut image)), 0);
-            }
-            let begin = start.elapsed().as_nanos() as f64 / calls as f64;
-            let mut reply = [0; 24];
-            let start = Instant::now();
-            for _ in 0..calls {
-                let old = black_box(&images[j]);
-                let number = (host.advance)(old, &[], black_box(&mut image), &mut [], &mut reply);
-                assert_eq!(number, 0);
-            }
-            let empty = start.elapsed().as_nanos() as f64 / calls as f64;
-            if run > 0 {
-                columns[0][j].push(begin);
-                columns[1][j].push(empty);
-            }
+    println!("\nCalls without samples: {CALLS} in a round");
+    heading("", &hosts, &["ns/call"]);
+    let times = rounds(count, &hosts, |_, host| {
+        let q = settings(8);
+        let mut image = [0; 620];
+        let start = Instant::now();
+        for _ in 0..CALLS {
+            assert_eq!((host.begin)(black_box(&q), black_box(&mut image)), 0);
         }
-    }
-    for (what, times) in ["begin", "restore + save"].iter().zip(columns) {
-        let texts: Vec<String> = times.iter().map(|x| middle(x, 1)).collect();
-        line(what, &texts);
-    }
+        start.elapsed().as_nanos() as f64
+    });
+    row("begin", &times, &[CALLS]);
+    let bytes = samples("events", 8, LARGE);
+    let images: Vec<_> = hosts.iter().map(|x| warmed(x, 8, &bytes)).collect();
+    let times = rounds(count, &hosts, |j, host| {
+        let (mut image, mut reply) = ([0; 620], [0; 24]);
+        let start = Instant::now();
+        for _ in 0..CALLS {
+            let old = black_box(&images[j]);
+            let number = (host.advance)(old, &[], black_box(&mut image), &mut [], &mut reply);
+            assert_eq!(number, 0);
+        }
+        start.elapsed().as_nanos() as f64
+    });
+    row("restore + save", &times, &[CALLS]);
 }

@@ -11,13 +11,13 @@ use Rattle.rms.proofs.rms_value.Tie as tie
 scaled-mean-square-requires : tie.Need-scaled-mean-square-requires
 scaled-mean-square-requires c κs = search needs
 
-root-requires : tie.Need-root-requires
-root-requires c κs = search needs
+quick-root-requires : tie.Need-quick-root-requires
+quick-root-requires c κs = search needs
 
-value-is : (c : tie.After-root) → c .root .result ≡ rms (c .before .before .args .samples) (c .before .before .args .first) (c .before .before .args .second)
-value-is c = c .root .ensures ∙ ap root (c .before .scaled-mean-square .ensures)
+value-is : (c : tie.After-quick-root) → c .quick-root .result ≡ rms (c .before .before .args .samples) (c .before .before .args .first) (c .before .before .args .second)
+value-is c = c .quick-root .ensures ∙ ap root (c .before .scaled-mean-square .ensures)
 
-bound : (c : tie.After-root) → c .root .result ≤ 524288
+bound : (c : tie.After-quick-root) → c .quick-root .result ≤ 524288
 bound c =
     let a = c .before .before .args in
     let p = c .before .before .pre in
@@ -30,4 +30,4 @@ returns : tie.Need-returns
 returns c = (value-is c, bound c)
 
 pub rms-value-spec : {M : Type 1} → statement M
-rms-value-spec = tie.close (tie.spec scaled-mean-square-requires root-requires cast-result returns)
+rms-value-spec = tie.close (tie.spec scaled-mean-square-requires quick-root-requires cast-result returns)

@@ -2,9 +2,9 @@
 use mathlib.Core.Path.{_≡_, sym, subst}
 use borrow.Author.Needs.{needs}
 use Rattle.image.specs.ImageValid.{ValidState}
-use Rattle.machine.specs.Step.{fresh}
+use Rattle.machine.specs.Step.{stateWith, fresh}
 use Rattle.machine.specs.StepValid.{fresh-valid}
-use Rattle.logger.specs.Feed.{stateWith}
+use Rattle.logger.specs.Feed.{}
 use Rattle.logger.proofs.Logger.start.Statement.{statement}
 use Rattle.logger.proofs.Logger.start.Tie as tie
 

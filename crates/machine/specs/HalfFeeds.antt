@@ -1,4 +1,4 @@
--- The greedy feed of a block by its first half-cycle: taken, not taken, or not complete; and how a block is shared out.
+-- The greedy feed of a block by its first half-cycle: taken, not taken, or not complete.
 use mathlib.Core.Path.{_≡_, refl, sym, _∙_, ap}
 use mathlib.Core.Bool.{Bool, true, false}
 use mathlib.Core.List.{List, [], _∷_, _++_, append-nil}
@@ -7,18 +7,13 @@ use native.Mathlib.Omega.{arith}
 use lib.ListN.{length, take, drop, getD, take-append-drop}
 use lib.Seq.{length-take-le, take-suc, drop-cons}
 use lib.IntN.{ℤ, pos}
-use borrow.Author.Tests.{ltb-true, ltb-false}
 use Rattle.settings.specs.Notation.{_<ᵇ_, if_then_else_}
 use Rattle.reading.specs.Values.{squares}
-use Rattle.rms.specs.declared.Gatherer.{Gatherer}
-use Rattle.rms.specs.declared.Share.{Share}
-use Rattle.rms.specs.Gather.{shareOf}
 use Rattle.image.specs.declared.State.{State}
 use Rattle.image.specs.ImageValid.{ValidState}
 use Rattle.greedy.specs.Greedy.{Fed, joined, fedBy}
-use Rattle.machine.specs.Step.{withGathered, passesEnd, dueWith, after, machine}
+use Rattle.machine.specs.Step.{withGathered, passesEnd, dueWith, after, machine, missing, whyNot}
 use Rattle.machine.specs.StepHalf.{onHalf, feed-part, feed-half}
-use Rattle.logger.specs.Feed.{missing, whyNot}
 
 -- where a half-cycle is taken
 pub taken-why : (past full : Bool) → _≡_ {A = ℕ} (if past then 2 else if full then 1 else 0) 0 → (past ≡ false) × (full ≡ false)
@@ -109,30 +104,3 @@ feed-rest st b room ok h =
     ap (λ (r : List ℤ). fedBy machine st r room) (sym (append-nil b))
     ∙ feed-part st b room (ok .count-le) h []
     ∙ (λ i. stoppedAt (withGathered st (length b) (squares b)) (c i) 0)
-
--- how a block is shared out
-module _ (g : Gatherer) (m : ℕ) (b : List ℤ) (share : Share) (is : share ≡ shareOf g m b) where
-  by-share : {A : Type 0} → ((length b <ᵇ m - g .count) ≡ true → share ≡ record { count = length b; completes = false } → A) →
-      ((length b <ᵇ m - g .count) ≡ false → share ≡ record { count = m - g .count; completes = true } → A) → A
-  by-share {A} few many = go (length b <ᵇ m - g .count) refl is
-    where
-      go : (t : Bool) → (length b <ᵇ m - g .count) ≡ t →
-          share ≡ (if t then record { count = length b; completes = false } else record { count = m - g .count; completes = true }) → A
-      go true p q = few p q
-      go false p q = many p q
-
-  pub share-in : share .count ≤ length b
-  share-in = by-share (λ p q. omega (arith, ap (λ (s : Share). s .count) q)) (λ p q. omega (arith, ap (λ (s : Share). s .count) q, ltb-false (length b) (m - g .count) p))
-
-  pub share-most : share .count ≤ m - g .count
-  share-most = by-share (λ p q. omega (arith, ap (λ (s : Share). s .count) q, ltb-true (length b) (m - g .count) p)) (λ p q. omega (arith, ap (λ (s : Share). s .count) q))
-
-  pub share-completes : share .completes ≡ true → share .count ≡ m - g .count
-  share-completes c =
-      by-share (λ p q. let e : share .completes ≡ false = ap (λ (s : Share). s .completes) q in let z : _≡_ {A = ℕ} 0 1 = cc in absurd (omega arith))
-      (λ p q. ap (λ (s : Share). s .count) q)
-
-  pub share-leaves : share .completes ≡ false → (share .count ≡ length b) × (length b < m - g .count)
-  share-leaves c =
-      by-share (λ p q. (ap (λ (s : Share). s .count) q, ltb-true (length b) (m - g .count) p))
-      (λ p q. let e : share .completes ≡ true = ap (λ (s : Share). s .completes) q in let z : _≡_ {A = ℕ} 0 1 = cc in absurd (omega arith))

@@ -1,0 +1,63 @@
+-- Settings that were read are valid.
+use mathlib.Core.Path.{sym, _∙_}
+use borrow.Author.Needs.{needs}
+use Rattle.settings.specs.SettingsLaws.{read-accepted}
+use Rattle.event_log.proofs.main.Statement.{statement}
+use Rattle.event_log.proofs.main.Tie as tie
+
+slice-aggregate-read-full : tie.Need-slice-aggregate-read-full
+slice-aggregate-read-full c = search needs
+
+read-full-requires : tie.Need-read-full-requires
+read-full-requires c κs = search needs
+
+array-share-prefix-bytes : tie.Need-array-share-prefix-bytes
+array-share-prefix-bytes c = search needs
+
+slice-aggregate-from-bytes : tie.Need-slice-aggregate-from-bytes
+slice-aggregate-from-bytes c = search needs
+
+from-bytes-requires : tie.Need-from-bytes-requires
+from-bytes-requires c κs = search needs
+
+enum-known-settings : tie.Need-enum-known-settings
+enum-known-settings c = search needs
+
+log-requires : tie.Need-log-requires
+log-requires c κs = read-accepted _ _ (sym (c .before .before .before .from-bytes .ensures) ∙ c .before .settings .given .1) .valid
+
+enum-known-number : tie.Need-enum-known-number
+enum-known-number c = search needs
+
+slice-aggregate-print-line : tie.Need-slice-aggregate-print-line
+slice-aggregate-print-line c = search needs
+
+cast-print-line : tie.Need-cast-print-line
+cast-print-line c = search needs
+
+print-line-requires : tie.Need-print-line-requires
+print-line-requires c κs = search needs
+
+returns : tie.Need-returns
+returns c = search needs
+
+returns-2 : tie.Need-returns-2
+returns-2 c = search needs
+
+pub main-spec : {M : Type 1} → statement M
+main-spec =
+    tie.close
+    (tie.spec
+    slice-aggregate-read-full
+    read-full-requires
+    array-share-prefix-bytes
+    slice-aggregate-from-bytes
+    from-bytes-requires
+    enum-known-settings
+    log-requires
+    enum-known-number
+    slice-aggregate-print-line
+    cast-print-line
+    print-line-requires
+    returns
+    returns-2)

@@ -1,0 +1,154 @@
+// The event program: settings, then samples, from standard input; a line for each record, and the number of values, to standard output.
+use libc::STDIN_FILENO;
+use libc::STDOUT_FILENO;
+use logger::Fed;
+use logger::Logger;
+use reading::Event;
+use settings::Settings;
+use settings::SettingsRead;
+ghost use mathlib.Core.Path.{_≡_};
+ghost use mathlib.Core.Bool.{_&&_};
+ghost use Prim.Native.Nat.{_+_, _*_, _≤_};
+ghost use lib.ListN.{length, take};
+ghost use Rattle.settings.specs.Notation.{_≡ᵇ_};
+ghost use Rattle.settings.specs.SettingsLaws.{ValidSettings};
+ghost use Rattle.samples.specs.Samples.{samplesOf};
+ghost use Rattle.image.specs.ImageValid.{ValidState};
+ghost use Rattle.logger.specs.Feed.{FedIs};
+ghost use Rattle.event_log.specs.Text.{column, kindName, lineOf, linesOf, Put};
+
+const CHUNK_BYTES: usize = 2048;
+
+// A chunk of samples completes at most 159 half-cycles, with up to 255 samples of one begun before and 8 or more in each. Each has at most 4 records:
+// a chunk's records always fit.
+const CHUNK_RECORDS: usize = 636;
+
+const RECORD: usize = 20;
+
+// The longest line: a kind of 12 letters, four columns of a space and at most 20 digits, and the line's end.
+const LINE: usize = 97;
+
+// Puts bytes at a place of a text; tells the place behind them.
+fn put(text: &mut [u8], at: usize, bytes: &[u8]) -> usize
+    requires { ⌜ at + length (now bytes) ≤ length (now text) ⌝ }
+    ensures { λ r. ⌜ Put (now (text .entry)) at (now (bytes .entry)) r (now (text .exit)) ⌝ }
+{
+    let mut i = 0;
+    while i < bytes.len() {
+        text[at + i] = bytes[i];
+        i += 1;
+    }
+    at + i
+}
+
+// A space and a number.
+fn put_column(text: &mut [u8], at: usize, number: u64) -> usize
+    requires { ⌜ at + 21 ≤ length (now text) ⌝ }
+    ensures { λ r. ⌜ Put (now (text .entry)) at (column number) r (now (text .exit)) ⌝ }
+    ensures { λ r. ⌜ r ≤ at + 21 ⌝ }
+{
+    let mut digits = [0u8; 20];
+    let count = io::decimal(number, &mut digits);
+    let behind = put(text, at, b" ");
+    put(text, behind, &digits[..count])
+}
+
+fn put_kind(text: &mut [u8], at: usize, kind: u8) -> usize
+    requires { ⌜ at + 12 ≤ length (now text) ⌝ }
+    ensures { λ r. ⌜ Put (now (text .entry)) at (kindName kind) r (now (text .exit)) ⌝ }
+    ensures { λ r. ⌜ r ≤ at + 12 ⌝ }
+{
+    if kind == Event::DIP {
+        return put(text, at, b"dip");
+    }
+    if kind == Event::SWELL {
+        return put(text, at, b"swell");
+    }
+    if kind == Event::INTERRUPTION {
+        return put(text, at, b"interruption");
+    }
+    put(text, at, b"rvc")
+}
+
+fn put_line(text: &mut [u8], at: usize, event: Event) -> usize
+    requires { ⌜ at + 97 ≤ length (now text) ⌝ }
+    ensures { λ r. ⌜ Put (now (text .entry)) at (lineOf event) r (now (text .exit)) ⌝ }
+    ensures { λ r. ⌜ r ≤ at + 97 ⌝ }
+{
+    let kind = put_kind(text, at, event.kind);
+    let start = put_column(text, kind, event.start);
+    let duration = put_column(text, start, event.duration);
+    let first = put_column(text, duration, event.first);
+    let second = put_column(text, first, event.second);
+    put(text, second, b"\n")
+}
+
+// The lines of the first records, from the text's start on; tells where they end.
+fn put_lines(text: &mut [u8], records: &[u8], count: usize) -> usize
+    requires { ⌜ (20 * count ≤ length (now records)) × (97 * count ≤ length (now text)) ⌝ }
+    ensures { λ r. ⌜ (r ≤ length (now (text .entry))) × (take r (now (text .exit)) ≡ linesOf count (now (records .entry))) ⌝ }
+{
+    let mut at = 0;
+    let mut i = 0;
+    while i < count {
+        let start = RECORD * i;
+        let end = start + RECORD;
+        let event = records::get_record(&records[start..end]);
+        at = put_line(text, at, event);
+        i += 1;
+    }
+    at
+}
+
+// Feeds the samples of a chunk, all of them up to V's end: its records fit.
+fn feed_chunk(logger: Logger, bytes: &[u8], records: &mut [u8]) -> Fed
+    requires { ⌜ ValidState (logger .state) × (length (now bytes) ≤ 2048) × (length (now records) ≡ 12720) ⌝ }
+    ensures { λ r. ⌜ FedIs (logger .state) (samplesOf (now (bytes .entry))) (now (records .entry)) (r .logger .state) (r .taken) (r .written) (r .why) (now (records .exit)) ⌝ }
+    ensures { λ r. ⌜ (r .why ≡ 1 → ⊥) × (r .written ≤ 636) ⌝ }
+{
+    logger.feed_bytes(bytes, records)
+}
+
+// Whether there may be more: not behind a short chunk, nor at V's end.
+fn goes_on(got: usize, why: u32) -> bool
+    ensures { λ r. ⌜ r ≡ (got ≡ᵇ 2048 && why ≡ᵇ 0) ⌝ }
+{
+    got == CHUNK_BYTES && why == 0
+}
+
+fn print_line(word: &[u8], number: u64) {
+    io::write_all(STDOUT_FILENO, word);
+    io::print_decimal(STDOUT_FILENO, number);
+    io::write_all(STDOUT_FILENO, b"\n");
+}
+
+// Feeds a fresh logger to the end of the input or of V, and prints.
+fn log(settings: Settings)
+    requires { ⌜ ValidSettings settings ⌝ }
+{
+    io::write_all(STDOUT_FILENO, b"kind start halves first second\n");
+    let mut logger = Logger::start(settings);
+    let mut bytes = [0u8; CHUNK_BYTES];
+    let mut records = [0u8; RECORD * CHUNK_RECORDS];
+    let mut text = [0u8; LINE * CHUNK_RECORDS];
+    let mut more = true;
+    while more {
+        let got = io::read_full(STDIN_FILENO, &mut bytes);
+        let fed = feed_chunk(logger, &bytes[..got], &mut records);
+        let end = put_lines(&mut text, &records, fed.written);
+        io::write_all(STDOUT_FILENO, &text[..end]);
+        logger = fed.logger;
+        more = goes_on(got, fed.why);
+    }
+    let readings = logger.look();
+    print_line(b"values ", readings.count);
+}
+
+fn main() {
+    let mut bytes = [0u8; Settings::LENGTH];
+    let got = io::read_full(STDIN_FILENO, &mut bytes);
+    match Settings::from_bytes(&bytes[..got]) {
+        SettingsRead::Read(settings) => log(settings),
+        SettingsRead::Refused(number) => print_line(b"refused ", number as u64),
+    }
+}

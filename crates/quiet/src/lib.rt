@@ -1,0 +1,228 @@
+// Runs of quiet half-cycles: the voltage is steady, nothing stands and nothing begins. No record is due then, and of the logger only the window, its count and
+// the last sum of squares change. The window is a ring meanwhile, with bounds of its values beside it, so that a half-cycle costs little more than its squares.
+use detection::Detector;
+use reading::Kind;
+use rms::Gatherer;
+use rvc::Phase;
+use settings::Scaled;
+use settings::Settings;
+use window::Bounds;
+ghost use mathlib.Core.Path.{_≡_};
+ghost use mathlib.Core.Bool.{true, false};
+ghost use Prim.Native.Nat.{_+_, _*_, _^_, _≤_, _<_};
+ghost use lib.ListN.{length};
+ghost use Rattle.settings.specs.Notation.{_≡ᵇ_, if_then_else_};
+ghost use Rattle.reading.specs.Feed.{lastValue};
+ghost use Rattle.samples.specs.Samples.{samplesOf};
+ghost use Rattle.window.specs.Range.{between};
+ghost use Rattle.window.specs.Bounds.{Holds, calmWithin};
+ghost use Rattle.image.specs.ImageValid.{ValidState};
+ghost use Rattle.machine.specs.Step.{stateWith};
+ghost use Rattle.quiet.specs.Quiet.{isSteady, anyBegins, QuietSigns, noneTaken, QuietIs, RingReady, RingIs};
+
+// What a run leaves of the logger beside the window, and the samples that it took.
+pub struct Run {
+    pub gatherer: Gatherer,
+    pub detector: Detector,
+    pub taken: usize,
+}
+
+// What it leaves of the ring: the place of the oldest value, the last half-cycle's sum of squares, the count of values, and the samples taken.
+struct Round {
+    head: usize,
+    last: u64,
+    count: u64,
+    taken: usize,
+}
+
+// Fewer half-cycles than these are not worth the ring.
+const WORTH: usize = 8;
+
+fn is_steady(phase: Phase) -> bool
+    ensures { λ b. ⌜ b ≡ isSteady phase ⌝ }
+{
+    match phase {
+        Phase::Filling => false,
+        Phase::Unsettled => false,
+        Phase::Steady => true,
+        Phase::Changing(_) => false,
+    }
+}
+
+// Whether a run can begin: the voltage is steady, nothing stands, and a half-cycle starts behind a whole one.
+fn can_begin(gatherer: Gatherer, detector: Detector) -> bool
+    ensures { λ b. ⌜ (b ≡ true → QuietSigns gatherer detector) ⌝ }
+{
+    let phase = detector.phase;
+    let dip = detector.dip;
+    let swell = detector.swell;
+    let interruption = detector.interruption;
+    if !is_steady(phase) {
+        return false;
+    }
+    if dip.start != 0 {
+        return false;
+    }
+    if swell.start != 0 {
+        return false;
+    }
+    if interruption.start != 0 {
+        return false;
+    }
+    if gatherer.count != 0 {
+        return false;
+    }
+    gatherer.whole
+}
+
+// Whether an event of any kind begins at a value.
+fn any_begins(scaled: Scaled, value: u64) -> bool
+    requires { ⌜ value ≤ 524288 ⌝ }
+    ensures { λ b. ⌜ b ≡ anyBegins scaled value ⌝ }
+{
+    if threshold::begins(Kind::Dip, scaled.dip, value) {
+        return true;
+    }
+    if threshold::begins(Kind::Swell, scaled.swell, value) {
+        return true;
+    }
+    threshold::begins(Kind::Interruption, scaled.interruption, value)
+}
+
+// Bounds of the ring and of one value more. Those at hand serve as long as the voltage is calm by them; else they are taken anew.
+fn bounds_with(bounds: Bounds, ring: &[u32], value: u32, size: u64, sum: u64, limit: u64) -> Bounds
+    requires { ⌜ Holds bounds (now ring) × (size ≤ 120) × (sum ≤ 62914560) × (limit ≤ 3774873) ⌝ }
+    ensures { λ r. ⌜ Holds r (now (ring .entry)) × (between (r .least) (r .greatest) value ≡ true) ⌝ }
+{
+    let wide = bounds.with(value);
+    if wide.calm(size, sum, limit) {
+        return wide;
+    }
+    let fresh = Bounds::of(ring);
+    fresh.with(value)
+}
+
+// Whether all stays quiet with a value after `count` others: it is not past V's end, nothing begins, and the window with it is calm.
+fn stays_quiet(scaled: Scaled, size: u64, count: u64, value: u64, bounds: Bounds, sum: u64) -> bool
+    requires { ⌜ (value ≤ 524288) × (size ≤ 120) × (sum ≤ 62914560) × (scaled .limit ≤ 3774873) × (count ≤ lastValue) ⌝ }
+    ensures { λ b. ⌜ (b ≡ true → (count < lastValue) × (anyBegins scaled value ≡ false) × (calmWithin size sum (scaled .limit) bounds ≡ true)) ⌝ }
+{
+    if count == Detector::LAST {
+        return false;
+    }
+    if any_begins(scaled, value) {
+        return false;
+    }
+    bounds.calm(size, sum, scaled.limit)
+}
+
+fn next_place(head: usize, size: usize) -> usize
+    requires { ⌜ head < size ⌝ }
+    ensures { λ r. ⌜ (r ≡ (if head + 1 ≡ᵇ size then 0 else head + 1)) × (r < size) ⌝ }
+{
+    let next = head + 1;
+    if next == size { 0 } else { next }
+}
+
+// Half-cycle by half-cycle, as long as all stays quiet and the bytes complete one.
+fn go_round(settings: Settings, ring: &mut [u32], last: u64, count: u64, bytes: &[u8]) -> Round
+    requires { ⌜ RingReady settings (now ring) last count ⌝ }
+    ensures { λ r. ⌜ RingIs settings last count (now (ring .entry)) (now (bytes .entry)) r (now (ring .exit)) ⌝ }
+{
+    let scaled = settings.scaled();
+    let limit = scaled.limit;
+    let half = settings.samples as usize;
+    let size = ring.len() as u64;
+    let whole = bytes.len() / 2;
+    let mut sum = window::sum_of(ring);
+    let mut bounds = Bounds::of(ring);
+    let mut newest = ring[0];
+    let mut round = Round {
+        head: 0,
+        last,
+        count,
+        taken: 0,
+    };
+    while half <= whole - round.taken {
+        let start = 2 * round.taken;
+        let end = start + 2 * half;
+        let squares = rms::sum_squares_in(&bytes[start..end]);
+        let value = rms::rms_near(settings.samples, round.last, squares, newest);
+        let head = round.head;
+        let wide = value as u64;
+        let after = sum - ring[head] as u64 + wide;
+        bounds = bounds_with(bounds, ring, value, size, after, limit);
+        if !stays_quiet(scaled, size, round.count, wide, bounds, after) {
+            return round;
+        }
+        ring[head] = value;
+        newest = value;
+        sum = after;
+        round = Round {
+            head: next_place(head, ring.len()),
+            last: squares,
+            count: round.count + 1,
+            taken: round.taken + half,
+        };
+    }
+    round
+}
+
+fn unchanged(gatherer: Gatherer, detector: Detector) -> Run
+    ensures { λ r. ⌜ r ≡ noneTaken gatherer detector ⌝ }
+{
+    Run {
+        gatherer,
+        detector,
+        taken: 0,
+    }
+}
+
+// Takes the quiet half-cycles in front of the bytes' samples, or some of them: where a run ends is a matter of speed only.
+pub fn take_quiet(
+    settings: Settings,
+    gatherer: Gatherer,
+    detector: Detector,
+    window: &mut [u32],
+    bytes: &[u8],
+) -> Run
+    requires { ⌜ ValidState (stateWith settings gatherer detector (now window)) ⌝ }
+    ensures { λ r. ⌜ QuietIs (stateWith settings gatherer detector (now (window .entry))) (samplesOf (now (bytes .entry))) (r .taken) (stateWith settings (r .gatherer) (r .detector) (now (window .exit))) ⌝ }
+{
+    let worth = WORTH * settings.samples as usize;
+    if bytes.len() / 2 < worth {
+        return unchanged(gatherer, detector);
+    }
+    if !can_begin(gatherer, detector) {
+        return unchanged(gatherer, detector);
+    }
+    let size = settings.window_length() as usize;
+    let round = go_round(
+        settings,
+        &mut window[0..size],
+        gatherer.last,
+        detector.count,
+        bytes,
+    );
+    window::turn(&mut window[0..size], round.head);
+    let dip = detector.dip;
+    let swell = detector.swell;
+    let interruption = detector.interruption;
+    let phase = detector.phase;
+    Run {
+        gatherer: Gatherer {
+            count: 0,
+            sum: 0,
+            last: round.last,
+            whole: true,
+        },
+        detector: Detector {
+            count: round.count,
+            dip,
+            swell,
+            interruption,
+            phase,
+        },
+        taken: round.taken,
+    }
+}
