@@ -34,6 +34,20 @@ qWith m t = record {
 abbrev pub q : Settings
 q = qWith 8 300
 
+-- Q with an H of 0
+abbrev pub qWithout : Settings
+qWithout = record {
+  samples = 8;
+  frequency = 50;
+  declared = 1600;
+  limit = 300;
+  reduction = 0;
+  interruption = 500;
+  dip = 9000;
+  swell = 11000;
+  hysteresis = 200;
+}
+
 -- n samples x
 abbrev pub all : ℕ → ℕ → List ℤ
 all n x = replicate n (pos x)
@@ -43,13 +57,18 @@ abbrev pub times : ℕ → List ℕ → List ℕ
 times zero bytes = []
 times (suc n) bytes = bytes ++ times n bytes
 
--- the program's samples; 150 half-cycles of 100, then 103 of 96; 89 until a dip stands, then x
+-- the program's samples; 150 half-cycles of 100, then 103 of 96
 abbrev pub program : List ℤ
 program = all 24 100 ++ (all 16 50 ++ all 24 100)
 
 abbrev pub change : List ℤ
 change = all (150 * 8) 100 ++ all (103 * 8) 96
 
+-- 150 half-cycles of 100, then 51 of 94 and 52 of 98: at value 252 within T of the mean, but not within T − H
+abbrev pub restless : List ℤ
+restless = all (150 * 8) 100 ++ (all (51 * 8) 94 ++ all (52 * 8) 98)
+
+-- 89 until a dip stands, then x
 abbrev pub dipThen : ℕ → List ℤ
 dipThen x = all 16 89 ++ all 16 x
 
@@ -127,6 +146,9 @@ pub record BenchReadings : Type 0 where
   pub change-not-before : recordsOf q (all (150 * 8) 100 ++ all (102 * 8) 96) ≡ []
   pub change-at-393 : recordsOf (qWith 8 393) change ≡ record { kind = 4; start = 151; duration = 1; first = 6368; second = 6368 } ∷ []
   pub none-at-394 : recordsOf (qWith 8 394) change ≡ []
+  -- in a change T − H is in force: a voltage that is calm under T only does not end it, unless H is 0
+  pub restless-goes-on : recordsOf q restless ≡ []
+  pub restless-without-H : recordsOf qWithout restless ≡ record { kind = 4; start = 151; duration = 1; first = 9552; second = 6256 } ∷ []
   -- the program's samples: dip 3, 3, 800, 0 and V 7, and the record's bytes; with no record room 55 taken, why 1
   pub program-record : recordsOf q program ≡ record { kind = 1; start = 3; duration = 3; first = 800; second = 0 } ∷ []
   pub program-bytes : recordBytes (recordsOf q program) ≡ 1 ∷ 0 ∷ 0 ∷ 0 ∷ 3 ∷ 0 ∷ 0 ∷ 0 ∷ 3 ∷ 0 ∷ 0 ∷ 0 ∷ 32 ∷ 3 ∷ 0 ∷ 0 ∷ 0 ∷ 0 ∷ 0 ∷ 0 ∷ []

@@ -7,7 +7,7 @@ use Rattle.settings.specs.Settings.{startRefusal, settingsRefusal, samplesGood,
 use Rattle.reading.specs.Values.{root, values}
 use Rattle.reading.specs.Image.{imageOf}
 use Rattle.reading.specs.Restore.{restoreRefusal, gathererGood, valuesGood, changeGood, standingGood, eventsGood}
-use Rattle.bench_readings.specs.Bench.{BenchReadings, q, qWith, all, change, changing, changingImage, changed, refusals, settingsOut, settingsIn, bodiesOut, bodiesIn, recordsOf}
+use Rattle.bench_readings.specs.Bench.{BenchReadings, q, qWith, qWithout, all, change, restless, changing, changingImage, changed, refusals, settingsOut, settingsIn, bodiesOut, bodiesIn, recordsOf}
 
 q-is-accepted : settingsRefusal q ≡ 0
 unfolding settingsRefusal samplesGood frequencyGood declaredGood limitGood levelsGood orderGood
@@ -29,6 +29,14 @@ change-is-not-due-before = refl
 change-is-at-393 : recordsOf (qWith 8 393) change ≡ record { kind = 4; start = 151; duration = 1; first = 6368; second = 6368 } ∷ []
 unfolding root
 change-is-at-393 = refl
+
+restless-has-none : recordsOf q restless ≡ []
+unfolding root
+restless-has-none = refl
+
+restless-has-one : recordsOf qWithout restless ≡ record { kind = 4; start = 151; duration = 1; first = 9552; second = 6256 } ∷ []
+unfolding root
+restless-has-one = refl
 
 none-is-at-394 : recordsOf (qWith 8 394) change ≡ []
 unfolding root
@@ -90,6 +98,8 @@ bench-holds = record {
   change-not-before = change-is-not-due-before;
   change-at-393 = change-is-at-393;
   none-at-394 = none-is-at-394;
+  restless-goes-on = restless-has-none;
+  restless-without-H = restless-has-one;
   program-record = refl;
   program-bytes = refl;
   program-count = refl;

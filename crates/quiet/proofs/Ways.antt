@@ -6,7 +6,6 @@ use Prim.Native.Nat.{ℕ, suc, _+_, _-_, _*_, _/_, _^_, _≤_, _<_}
 use native.Mathlib.Omega.{arith}
 use lib.ListN.{length, take, drop, set, getD, take-append-drop, length-append, length-drop, length-set}
 use lib.Seq.{take-at, drop-at, drop-append-le, length-take-le}
-use lib.IntN.{ℤ}
 use borrow.Author.Tests.{le-ltb, eqb-true}
 use Rattle.settings.specs.declared.Settings.{Settings}
 use Rattle.settings.specs.declared.Scaled.{Scaled}
@@ -39,9 +38,10 @@ use Rattle.detection.specs.declared.Detector.{Detector}
 use Rattle.image.specs.declared.State.{State}
 use Rattle.image.specs.ImageValid.{ValidState}
 use Rattle.machine.specs.Step.{stateWith}
+use Rattle.quiet.specs.declared.Calmed.{Calmed}
 use Rattle.quiet.specs.declared.Round.{Round}
 use Rattle.quiet.specs.declared.Run.{Run}
-use Rattle.quiet.specs.Quiet.{steadyAt, isSteady, anyBegins, QuietSigns, noneTaken, QuietIs, RingReady, RingIs}
+use Rattle.quiet.specs.Quiet.{steadyAt, isSteady, anyBegins, QuietSigns, noneTaken, QuietIs, CalmedBy, RingReady, RingIs}
 use Rattle.quiet.specs.QuietStep.{quiet-none, quiet-more, quiet-half}
 
 -- a test that holds and does not
@@ -51,6 +51,10 @@ never e = let z : _≡_ {A = ℕ} 0 1 = cc in absurd (omega arith)
 pub not-left : (b : Bool) → not b ≡ false → b ≡ true
 not-left true e = refl
 not-left false e = never (sym e)
+
+pub not-right : (b : Bool) → not b ≡ true → b ≡ false
+not-right true e = never e
+not-right false e = refl
 
 pub steady-is : (p : Phase) → isSteady p ≡ true → p ≡ Steady
 steady-is Filling e = never e
@@ -268,17 +272,16 @@ module _ (s : Settings) (e₀ v₀ : ℕ) (ring₀ b : List ℕ) where
               (steadyAt s f (round .count + 1) (turned head (set ring h r) ++ rest)) (samplesOf b) (round .taken) m before (step rest head e (before .valid));
         }
 
-      pub round-goes-on : (t : Scaled) → t ≡ scaledOf s → (bounds₁ : Bounds) → Holds bounds₁ ring → between (bounds₁ .least) (bounds₁ .greatest) r ≡ true →
-          (round .count < lastValue) × (anyBegins t r ≡ false) × (calmWithin (length ring₀) after (t .limit) bounds₁ ≡ true) →
+      pub round-goes-on : (t : Scaled) → t ≡ scaledOf s → (c : Calmed) → CalmedBy ring r (length ring₀) after (t .limit) c →
+          (c .calm ≡ true) × (anyBegins t r ≡ false) × (round .count < lastValue) →
           (head : ℕ) → head ≡ (if h + 1 ≡ᵇ length (set ring h r) then 0 else h + 1) → head < length (set ring h r) →
-          On (set ring h r) after bounds₁ (record { head = head; last = f; count = round .count + 1; taken = round .taken + m })
-      round-goes-on t t-is bounds₁ holds between-r stays head e inside =
+          On (set ring h r) after (c .bounds) (record { head = head; last = f; count = round .count + 1; taken = round .taken + m })
+      round-goes-on t t-is c calmed stays head e inside =
           let size : length ring₀ ≡ n = sym (inv .same) ∙ inv .long in
-          round-turns bounds₁ holds between-r (
-            stays .0,
-            subst (λ (x : Scaled). anyBegins x r ≡ false) t-is (stays .1),
-            subst (λ (x : Scaled). calmWithin n after (x .limit) bounds₁ ≡ true) t-is (subst (λ (k : ℕ). calmWithin k after (t .limit) bounds₁ ≡ true) size (stays .2)),
-          )
+          let calm : calmWithin n after (scaledOf s .limit) (c .bounds) ≡ true =
+          subst (λ (x : Scaled). calmWithin n after (x .limit) (c .bounds) ≡ true) t-is
+          (subst (λ (k : ℕ). calmWithin k after (t .limit) (c .bounds) ≡ true) size (calmed .calm (stays .0))) in
+          round-turns (c .bounds) (calmed .holds) (calmed .inside) (stays .2, subst (λ (x : Scaled). anyBegins x r ≡ false) t-is (stays .1), calm)
           head (e ∙ ap (λ (k : ℕ). if h + 1 ≡ᵇ k then 0 else h + 1) (length-set ring h r)) (omega (arith, length-set ring h r))
 
 -- a logger that shows the signs, its window lent as a ring and turned back

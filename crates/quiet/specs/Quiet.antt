@@ -16,7 +16,8 @@ use Rattle.samples.specs.Samples.{samplesOf}
 use Rattle.rms.specs.declared.Gatherer.{Gatherer}
 use Rattle.threshold.specs.Standing.{noEvent, beginsAt}
 use Rattle.window.specs.WindowValid.{Small}
-use Rattle.window.specs.Bounds.{turned}
+use Rattle.window.specs.Range.{between}
+use Rattle.window.specs.Bounds.{Holds, calmWithin, turned}
 use Rattle.rvc.specs.declared.Phase.{Phase}
 use Rattle.rvc.specs.declared.Phase.the-variants.{Filling, Unsettled, Steady, Changing}
 use Rattle.detection.specs.declared.Detector.{Detector}
@@ -24,6 +25,7 @@ use Rattle.image.specs.declared.State.{State}
 use Rattle.image.specs.ImageValid.{ValidState}
 use Rattle.greedy.specs.Greedy.{joined, fedBy}
 use Rattle.machine.specs.Step.{machine}
+use Rattle.quiet.specs.declared.Calmed.{Calmed}
 use Rattle.quiet.specs.declared.Round.{Round}
 use Rattle.quiet.specs.declared.Run.{Run}
 
@@ -64,6 +66,12 @@ pub record QuietIs (st : State) (block : List ℤ) (taken : ℕ) (end : State) :
   pub inside : taken ≤ length block
   pub valid : ValidState end
   pub fed : (room : ℕ) → fedBy machine st block room ≡ joined taken [] (fedBy machine end (drop taken block) room)
+
+-- bounds hold of a ring and of r, and where they say so, the window of n with the sum a is calm under q
+pub record CalmedBy (ring : List ℕ) (r n a q : ℕ) (c : Calmed) : Type 0 where
+  pub holds : Holds (c .bounds) ring
+  pub inside : between (c .bounds .least) (c .bounds .greatest) r ≡ true
+  pub calm : c .calm ≡ true → calmWithin n a q (c .bounds) ≡ true
 
 -- the window's values as a ring, before and after some quiet half-cycles: what the code asks of it, and what it gives, whatever the window's unused places hold
 pub record RingReady (s : Settings) (ring : List ℕ) (e v : ℕ) : Type 0 where

@@ -13,20 +13,16 @@ use Rattle.settings.specs.Notation.{_<ᵇ_, _≡ᵇ_, if_then_else_}
 use Rattle.settings.specs.Settings.{windowLength}
 use Rattle.reading.specs.declared.Kind.{Kind}
 use Rattle.reading.specs.declared.Kind.the-variants.{Dip, Swell, Interruption}
-use Rattle.reading.specs.declared.Event.{Event}
 use Rattle.reading.specs.Values.{squares, rms}
 use Rattle.reading.specs.Thresholds.{begins, ends}
 use Rattle.reading.specs.Changes.{windowSum, calm}
 use Rattle.reading.specs.Feed.{lastValue}
-use Rattle.rms.specs.declared.Gatherer.{Gatherer}
 use Rattle.rms.specs.Gather.{gathered, out}
 use Rattle.rms.specs.GatherLaws.{gathered-half}
 use Rattle.threshold.specs.Standing.{noEvent, stepped}
 use Rattle.window.specs.Window.{pushed}
-use Rattle.rvc.specs.declared.Phase.{Phase}
 use Rattle.rvc.specs.declared.Phase.the-variants.{Steady}
 use Rattle.rvc.specs.Phase.{phaseBy, phaseAfter}
-use Rattle.detection.specs.declared.Detector.{Detector}
 use Rattle.detection.specs.Detection.{stepOf, standsAt, detectorAfter, dueAt}
 use Rattle.image.specs.declared.State.{State}
 use Rattle.image.specs.ImageValid.{ValidState}

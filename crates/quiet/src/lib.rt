@@ -14,11 +14,10 @@ ghost use lib.ListN.{length};
 ghost use Rattle.settings.specs.Notation.{_≡ᵇ_, if_then_else_};
 ghost use Rattle.reading.specs.Feed.{lastValue};
 ghost use Rattle.samples.specs.Samples.{samplesOf};
-ghost use Rattle.window.specs.Range.{between};
-ghost use Rattle.window.specs.Bounds.{Holds, calmWithin};
+ghost use Rattle.window.specs.Bounds.{Holds};
 ghost use Rattle.image.specs.ImageValid.{ValidState};
 ghost use Rattle.machine.specs.Step.{stateWith};
-ghost use Rattle.quiet.specs.Quiet.{isSteady, anyBegins, QuietSigns, noneTaken, QuietIs, RingReady, RingIs};
+ghost use Rattle.quiet.specs.Quiet.{isSteady, anyBegins, QuietSigns, noneTaken, QuietIs, CalmedBy, RingReady, RingIs};
 
 // What a run leaves of the logger beside the window, and the samples that it took.
 pub struct Run {
@@ -33,6 +32,12 @@ struct Round {
     last: u64,
     count: u64,
     taken: usize,
+}
+
+// Bounds of a ring and of one value more, and whether the window with it is calm by them.
+struct Calmed {
+    bounds: Bounds,
+    calm: bool,
 }
 
 // Fewer half-cycles than these are not worth the ring.
@@ -89,31 +94,38 @@ fn any_begins(scaled: Scaled, value: u64) -> bool
     threshold::begins(Kind::Interruption, scaled.interruption, value)
 }
 
-// Bounds of the ring and of one value more. Those at hand serve as long as the voltage is calm by them; else they are taken anew.
-fn bounds_with(bounds: Bounds, ring: &[u32], value: u32, size: u64, sum: u64, limit: u64) -> Bounds
+// Bounds of the ring and of one value more, and whether the window with it is calm by them. Those at hand serve as long as it is; else they are taken anew.
+fn bounds_with(bounds: Bounds, ring: &[u32], value: u32, size: u64, sum: u64, limit: u64) -> Calmed
     requires { ⌜ Holds bounds (now ring) × (size ≤ 120) × (sum ≤ 62914560) × (limit ≤ 3774873) ⌝ }
-    ensures { λ r. ⌜ Holds r (now (ring .entry)) × (between (r .least) (r .greatest) value ≡ true) ⌝ }
+    ensures { λ r. ⌜ CalmedBy (now (ring .entry)) value size sum limit r ⌝ }
 {
     let wide = bounds.with(value);
     if wide.calm(size, sum, limit) {
-        return wide;
+        return Calmed {
+            bounds: wide,
+            calm: true,
+        };
     }
-    let fresh = Bounds::of(ring);
-    fresh.with(value)
+    let fresh = Bounds::of(ring).with(value);
+    let calm = fresh.calm(size, sum, limit);
+    Calmed {
+        bounds: fresh,
+        calm,
+    }
 }
 
-// Whether all stays quiet with a value after `count` others: it is not past V's end, nothing begins, and the window with it is calm.
-fn stays_quiet(scaled: Scaled, size: u64, count: u64, value: u64, bounds: Bounds, sum: u64) -> bool
-    requires { ⌜ (value ≤ 524288) × (size ≤ 120) × (sum ≤ 62914560) × (scaled .limit ≤ 3774873) × (count ≤ lastValue) ⌝ }
-    ensures { λ b. ⌜ (b ≡ true → (count < lastValue) × (anyBegins scaled value ≡ false) × (calmWithin size sum (scaled .limit) bounds ≡ true)) ⌝ }
+// Whether all stays quiet with a value after `count` others: the window with it is calm, nothing begins, and it is not past V's end.
+fn stays_quiet(scaled: Scaled, count: u64, value: u64, calm: bool) -> bool
+    requires { ⌜ (value ≤ 524288) × (count ≤ lastValue) ⌝ }
+    ensures { λ b. ⌜ (b ≡ true → (calm ≡ true) × (anyBegins scaled value ≡ false) × (count < lastValue)) ⌝ }
 {
+    if !calm {
+        return false;
+    }
     if count == Detector::LAST {
         return false;
     }
-    if any_begins(scaled, value) {
-        return false;
-    }
-    bounds.calm(size, sum, scaled.limit)
+    !any_begins(scaled, value)
 }
 
 fn next_place(head: usize, size: usize) -> usize
@@ -151,10 +163,11 @@ fn go_round(settings: Settings, ring: &mut [u32], last: u64, count: u64, bytes: 
         let head = round.head;
         let wide = value as u64;
         let after = sum - ring[head] as u64 + wide;
-        bounds = bounds_with(bounds, ring, value, size, after, limit);
-        if !stays_quiet(scaled, size, round.count, wide, bounds, after) {
+        let calmed = bounds_with(bounds, ring, value, size, after, limit);
+        if !stays_quiet(scaled, round.count, wide, calmed.calm) {
             return round;
         }
+        bounds = calmed.bounds;
         ring[head] = value;
         newest = value;
         sum = after;

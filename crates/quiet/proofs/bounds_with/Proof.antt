@@ -19,8 +19,12 @@ returns : tie.Need-returns
 returns c =
     let start = c .before .before .before .before in
     let a = start .args in
-    subst (λ (b : Bounds). Holds b (a .ring .now) × (between (b .least) (b .greatest) (a .value) ≡ true)) (sym (c .before .before .with .ensures))
-    (holds-widened (a .bounds) (a .ring .now) (a .value) (start .pre .0), between-widened (a .bounds) (a .value))
+    let wide = c .before .before .with in
+    record {
+      holds = subst (λ (b : Bounds). Holds b (a .ring .now)) (sym (wide .ensures)) (holds-widened (a .bounds) (a .ring .now) (a .value) (start .pre .0));
+      inside = subst (λ (b : Bounds). between (b .least) (b .greatest) (a .value) ≡ true) (sym (wide .ensures)) (between-widened (a .bounds) (a .value));
+      calm = λ e. sym (c .before .calm .ensures) ∙ c .if1 .taken;
+    }
 
 of-requires : tie.Need-of-requires
 of-requires c κs = search needs
@@ -28,14 +32,29 @@ of-requires c κs = search needs
 with-requires-2 : tie.Need-with-requires-2
 with-requires-2 c κs = search needs
 
+calm-requires-2 : tie.Need-calm-requires-2
+calm-requires-2 c κs = search needs
+
 returns-2 : tie.Need-returns-2
 returns-2 c =
-    let start = c .before .before .before .before .before .before in
+    let start = c .before .before .before .before .before .before .before in
     let a = start .args in
-    let fresh = c .before .of in
-    subst (λ (b : Bounds). Holds b (a .ring .now) × (between (b .least) (b .greatest) (a .value) ≡ true)) (sym (c .with2 .ensures))
-    (holds-widened (fresh .result) (a .ring .now) (a .value) (fresh .ensures), between-widened (fresh .result) (a .value))
+    let fresh = c .before .with2 in
+    let taken = c .before .before .of in
+    record {
+      holds = subst (λ (b : Bounds). Holds b (a .ring .now)) (sym (fresh .ensures)) (holds-widened (taken .result) (a .ring .now) (a .value) (taken .ensures));
+      inside = subst (λ (b : Bounds). between (b .least) (b .greatest) (a .value) ≡ true) (sym (fresh .ensures)) (between-widened (taken .result) (a .value));
+      calm = λ e. sym (c .calm2 .ensures) ∙ e;
+    }
 
 pub bounds-with-spec : {M : Type 1} → statement M
 bounds-with-spec =
-    tie.close (tie.spec with-requires calm-requires returns of-requires with-requires-2 returns-2)
+    tie.close
+    (tie.spec
+    with-requires
+    calm-requires
+    returns
+    of-requires
+    with-requires-2
+    calm-requires-2
+    returns-2)

@@ -1,5 +1,4 @@
 -- The invariant `On`: what the ring is after some quiet half-cycles. It starts, turns and ends by the laws of Ways.
-use mathlib.Core.Path.{_≡_, refl, sym, _∙_, ap}
 use Prim.Native.Nat.{_+_, _-_, _*_, _/_, _≤_, _<_, _^_}
 use native.Mathlib.Omega.{arith}
 use lib.ListN.{length, drop, set, getD, length-take, length-set}
@@ -191,14 +190,7 @@ stays-quiet-requires c κs =
       f .ensures .1,
       length-take (2 * l .round .taken + 2 * a .settings .samples - 2 * l .round .taken) (drop (2 * l .round .taken) (a .bytes .now)),
     ) in
-    let scaling = turn .before .before .before .before .before .before .before .scaled in (
-      near .rms-near .ensures .1,
-      size-le (a .settings) (a .last) (a .count) (a .ring .now) (a .bytes .now) (l .ring) (l .sum) (l .bounds) (l .round) (l .inv),
-      after-le (a .settings) (a .last) (a .count) (a .ring .now) (a .bytes .now) (l .ring) (l .sum) (l .bounds) (l .round) (l .inv)
-          (tested .if1 .taken) (f .result) (f .ensures .0) f-le (near .rms-near .result) (near .rms-near .ensures .0) (near .rms-near .ensures .1),
-      limit-le (a .settings) (a .last) (a .count) (a .ring .now) (a .bytes .now) (l .ring) (l .sum) (l .bounds) (l .round) (l .inv) (scaling .result) (scaling .ensures),
-      l .inv .count-le,
-    )
+    (near .rms-near .ensures .1, l .inv .count-le)
 
 same-length : tie.Need-same-length Inv-loop μ-loop
 same-length c = c .before .before .before .before .before .before .before .before .before .before .before .loop .inv .same
@@ -213,37 +205,37 @@ returns c =
 
 mul-ring : tie.Need-mul-ring Inv-loop μ-loop
 mul-ring c =
-    let turn = c .before .before .before .before .before .before .before .before .before .before .before in
+    let turn = c .before .before .before .before .before .before .before .before .before .before .before .before in
     let start = turn .before .before .before .before .before .before .before .before .before .before in
     let a = start .args in
     let l = turn .loop in
     omega (arith, l .inv .head-in, size-le (a .settings) (a .last) (a .count) (a .ring .now) (a .bytes .now) (l .ring) (l .sum) (l .bounds) (l .round) (l .inv), l .inv .same)
 
 slice-write-ring : tie.Need-slice-write-ring Inv-loop μ-loop
-slice-write-ring c = c .before .before .before .before .before .before .before .before .before .before .before .loop .inv .head-in
+slice-write-ring c = c .before .before .before .before .before .before .before .before .before .before .before .before .loop .inv .head-in
 
 next-place-requires : tie.Need-next-place-requires Inv-loop μ-loop
 next-place-requires c κs =
-    let turn = c .before .before .before .before .before .before .before .before .before .before .before in
+    let turn = c .before .before .before .before .before .before .before .before .before .before .before .before in
     let start = turn .before .before .before .before .before .before .before .before .before .before in
     let a = start .args in
     let l = turn .loop in
-    let r = c .before .before .before .before .before .rms-near .result in
+    let r = c .before .before .before .before .before .before .rms-near .result in
     let h : l .round .head < length (set (l .ring) (l .round .head) r) = omega (arith, l .inv .head-in, length-set (l .ring) (l .round .head) r) in
     h
 
-add-t37 : tie.Need-add-t37 Inv-loop μ-loop
-add-t37 c =
-    let turn = c .before .before .before .before .before .before .before .before .before .before .before .before .before in
+add-t38 : tie.Need-add-t38 Inv-loop μ-loop
+add-t38 c =
+    let turn = c .before .before .before .before .before .before .before .before .before .before .before .before .before .before in
     let start = turn .before .before .before .before .before .before .before .before .before .before in
     let a = start .args in
     let l = turn .loop in
     let h : l .round .count + 1 < 2 ^ 64 = omega (arith, l .inv .count-le) in
     record { fits = h }
 
-add-t43 : tie.Need-add-t43 Inv-loop μ-loop
-add-t43 c =
-    let turn = c .before .before .before .before .before .before .before .before .before .before .before .before .before .before in
+add-t44 : tie.Need-add-t44 Inv-loop μ-loop
+add-t44 c =
+    let turn = c .before .before .before .before .before .before .before .before .before .before .before .before .before .before .before in
     let start = turn .before .before .before .before .before .before .before .before .before .before in
     let a = start .args in
     let l = turn .loop in
@@ -252,7 +244,7 @@ add-t43 c =
 
 loop-less : tie.Need-loop-less Inv-loop μ-loop
 loop-less c =
-    let tested = c .before .before .before .before .before .before .before .before .before .before .before .before in
+    let tested = c .before .before .before .before .before .before .before .before .before .before .before .before .before in
     let turn = tested .before .before in
     let start = turn .before .before .before .before .before .before .before .before .before .before in
     let a = start .args in
@@ -263,7 +255,7 @@ loop-less c =
 
 loop-again : tie.Need-loop-again Inv-loop μ-loop
 loop-again c =
-    let near = c .before .before .before .before .before .before .before .before in
+    let near = c .before .before .before .before .before .before .before .before .before in
     let summed = near .before in
     let tested = summed .before .before .before in
     let turn = tested .before .before in
@@ -277,12 +269,12 @@ loop-again c =
       length-take (2 * l .round .taken + 2 * a .settings .samples - 2 * l .round .taken) (drop (2 * l .round .taken) (a .bytes .now)),
     ) in
     let scaling = turn .before .before .before .before .before .before .before .scaled in
-    let bounded = c .before .before .before .before .before .bounds-with in
-    let stays = c .before .before .before .before .stays-quiet in
+    let calmed = c .before .before .before .before .before .before .bounds-with in
+    let stays = c .before .before .before .before .before .stays-quiet in
     let placed = c .before .before .next-place in
     round-goes-on (a .settings) (a .last) (a .count) (a .ring .now) (a .bytes .now) (l .ring) (l .sum) (l .bounds) (l .round) (l .inv)
     (tested .if1 .taken) (f .result) (f .ensures .0) f-le (near .rms-near .result) (near .rms-near .ensures .0) (near .rms-near .ensures .1)
-    (scaling .result) (scaling .ensures) (bounded .result) (bounded .ensures .0) (bounded .ensures .1) (stays .ensures (not-left (stays .result) (c .before .before .before .if2 .left)))
+    (scaling .result) (scaling .ensures) (calmed .result) (calmed .ensures) (stays .ensures (not-left (stays .result) (c .before .before .before .before .if2 .left)))
     (placed .result) (placed .ensures .0) (placed .ensures .1)
 
 same-length-2 : tie.Need-same-length-2 Inv-loop μ-loop
@@ -330,8 +322,8 @@ go-round-spec =
     mul-ring
     slice-write-ring
     next-place-requires
-    add-t37
-    add-t43
+    add-t38
+    add-t44
     loop-less
     loop-again
     same-length-2

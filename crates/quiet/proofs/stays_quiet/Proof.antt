@@ -2,7 +2,7 @@
 use mathlib.Core.Path.{sym, _∙_}
 use native.Mathlib.Omega.{arith}
 use borrow.Author.Needs.{needs}
-use Rattle.quiet.proofs.Ways.{never}
+use Rattle.quiet.proofs.Ways.{never, not-left, not-right}
 use Rattle.quiet.proofs.stays_quiet.Statement.{statement}
 use Rattle.quiet.proofs.stays_quiet.Tie as tie
 
@@ -15,14 +15,14 @@ any-begins-requires c κs = search needs
 returns-2 : tie.Need-returns-2
 returns-2 c = λ e. never e
 
-calm-requires : tie.Need-calm-requires
-calm-requires c κs = search needs
-
 returns-3 : tie.Need-returns-3
 returns-3 c = λ e.
-    let start = c .before .before .before .before in
-    (omega (arith, c .before .before .before .if1 .left, start .pre .4), sym (c .before .before .any-begins .ensures) ∙ c .before .if2 .left, sym (c .calm .ensures) ∙ e)
+    let tested = c .before in
+    let start = tested .before .before in (
+      not-left (start .args .calm) (tested .before .if1 .left),
+      sym (c .any-begins .ensures) ∙ not-right (c .any-begins .result) e,
+      omega (arith, tested .if2 .left, start .pre .1),
+    )
 
 pub stays-quiet-spec : {M : Type 1} → statement M
-stays-quiet-spec =
-    tie.close (tie.spec returns any-begins-requires returns-2 calm-requires returns-3)
+stays-quiet-spec = tie.close (tie.spec returns returns-2 any-begins-requires returns-3)
