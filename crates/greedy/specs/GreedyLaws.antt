@@ -70,31 +70,6 @@ module _ {St : Type 0} (M : Machine St) where
       go false true ih = refl
       go false false ih = ap (joined 1 (M .dueWith st x)) ih ∙ joined-andThen (M .dueWith st x) (fedBy M (M .next st x) xs later) ys room
 
-  -- a block that is taken with reason 0 is taken whole
-  pub fedBy-whole : (xs : List ℤ) (st : St) (room : ℕ) → fedBy M st xs room .reason ≡ 0 → fedBy M st xs room .count ≡ length xs
-  unfolding fedBy
-  fedBy-whole [] st room r = refl
-  fedBy-whole (x ∷ xs) st room r = go (M .atEnd st x) (room <ᵇ length (M .dueWith st x)) r (fedBy-whole xs (M .next st x) (room - length (M .dueWith st x)))
-    where
-      later : Fed St
-      later = fedBy M (M .next st x) xs (room - length (M .dueWith st x))
-
-      go : (e f : Bool) → on st x xs room e f .reason ≡ 0 → (later .reason ≡ 0 → later .count ≡ length xs) → on st x xs room e f .count ≡ suc (length xs)
-      go true f q ih = absurd (omega arith)
-      go false true q ih = absurd (omega arith)
-      go false false q ih = omega (arith, ih q)
-
-  -- and never more than the block
-  pub fedBy-most : (xs : List ℤ) (st : St) (room : ℕ) → fedBy M st xs room .count ≤ length xs
-  unfolding fedBy
-  fedBy-most [] st room = omega arith
-  fedBy-most (x ∷ xs) st room = go (M .atEnd st x) (room <ᵇ length (M .dueWith st x)) (fedBy-most xs (M .next st x) (room - length (M .dueWith st x)))
-    where
-      go : (e f : Bool) → fedBy M (M .next st x) xs (room - length (M .dueWith st x)) .count ≤ length xs → on st x xs room e f .count ≤ suc (length xs)
-      go true f ih = omega arith
-      go false true ih = omega arith
-      go false false ih = omega arith
-
   -- the records written fit
   pub fedBy-fits : (xs : List ℤ) (st : St) (room : ℕ) → length (fedBy M st xs room .records) ≤ room
   unfolding fedBy

@@ -31,6 +31,7 @@ use Rattle.greedy.specs.GreedyLaws.{joined-joined}
 use Rattle.machine.specs.Step.{stateWith, withGathered, passesEnd, dueWith, after, machine, missing, whyNot}
 use Rattle.machine.specs.HalfFeeds.{taken-why, stoppedAt, feed-taken, feed-stops, feed-rest}
 use Rattle.machine.specs.StepValid.{after-valid, withGathered-valid}
+use Rattle.quiet.specs.Quiet.{QuietIs}
 use Rattle.logger.specs.declared.Half.{Half}
 use Rattle.logger.specs.declared.Walked.{Walked}
 use Rattle.logger.specs.Feed.{walkedWith, CompleteReady, HalfIs, FedIs}
@@ -46,7 +47,7 @@ pub record Going (st₀ : State) (block : List ℤ) (lent out : List ℕ) (st : 
   pub count : written ≡ length records
   pub bytes : out ≡ placed 0 (recordBytes records) lent
 
-pub going-first : (st : State) (block : List ℤ) (lent : List ℕ) → ValidState st → Going st block lent lent st 0 0
+going-first : (st : State) (block : List ℤ) (lent : List ℕ) → ValidState st → Going st block lent lent st 0 0
 going-first st block lent ok =
     let c : (k : ℕ) → k ≡ 0 + k = λ k. omega arith in
     let r : room lent ≡ room lent - 0 = omega arith in
@@ -62,6 +63,22 @@ going-first st block lent ok =
     }
 
 module _ (st₀ : State) (block : List ℤ) (lent out : List ℕ) (st : State) (at written : ℕ) (g : Going st₀ block lent out st at written) where
+  -- a quiet run more
+  going-run : (n : ℕ) (end : State) → QuietIs st (drop at block) n end → Going st₀ block lent out end (at + n) written
+  going-run n end quiet = record {
+    records = g .records;
+    valid = quiet .valid;
+    at-in = omega (arith, quiet .inside, length-drop at block, g .at-in);
+    fits = g .fits;
+    fed =
+        g .fed
+        ∙ ap (joined at (g .records)) (quiet .fed (room lent - written))
+        ∙ joined-joined machine at n (g .records) [] (fedBy machine end (drop n (drop at block)) (room lent - written))
+        ∙ (λ i. joined (at + n) (append-nil (g .records) i) (fedBy machine end (drop-drop n at block i) (room lent - written)));
+    count = g .count;
+    bytes = g .bytes;
+  }
+
   -- one half-cycle more
   going-next : (e k : ℕ) (st₁ : State) (out₁ : List ℕ) → at + missing st ≤ length block → e ≡ squares (take (missing st) (drop at block)) → e ≤ missing st * 2 ^ 30 →
       whyNot st e (room lent - written) ≡ 0 → st₁ ≡ after st (missing st) e → k ≡ length (dueWith st (missing st) e) →
@@ -97,7 +114,7 @@ module _ (st₀ : State) (block : List ℤ) (lent out : List ℕ) (st : State) (
       }
 
   -- where the walk ends: with what the greedy feed leaves
-  pub going-last : (end : State) (n why taken : ℕ) → fedBy machine st (drop at block) (room lent - written) ≡ stoppedAt end n why → taken ≡ at + n → ValidState end →
+  going-last : (end : State) (n why taken : ℕ) → fedBy machine st (drop at block) (room lent - written) ≡ stoppedAt end n why → taken ≡ at + n → ValidState end →
       FedIs st₀ block lent end taken written why out
   going-last end n why taken e t ok =
       let all : fedBy machine st₀ block (room lent) ≡ joined at (g .records) (stoppedAt end n why) = g .fed ∙ ap (joined at (g .records)) e in
@@ -143,7 +160,7 @@ module _ (s : Settings) (w₀ : List ℕ) (block : List ℤ) (lent : List ℕ) (
   pub record On (w out : List ℕ) (g : Gatherer) (d : Detector) (sum at written : ℕ) (share : Share) : Type 0 where
     pub going : Going (stateWith s g₀ d₀ w₀) block lent out (stateWith s g d w) at written
     pub sum-is : sum ≡ sumOf w
-    pub share-is : share ≡ shareOf g (s .samples) (drop at block)
+    pub share-is : share ≡ shareOf g (s .samples) (length block - at)
     pub long : length out ≡ length lent
     pub wide : length w ≡ length w₀
     pub fits : written ≤ room lent
@@ -153,7 +170,7 @@ module _ (s : Settings) (w₀ : List ℕ) (block : List ℤ) (lent : List ℕ) (
     pub sum-le : g .sum ≤ g .count * 2 ^ 30
 
   on : (w out : List ℕ) (g : Gatherer) (d : Detector) (sum at written : ℕ) (share : Share) → Going (stateWith s g₀ d₀ w₀) block lent out (stateWith s g d w) at written →
-      sum ≡ sumOf w → share ≡ shareOf g (s .samples) (drop at block) → length out ≡ length lent → length w ≡ length w₀ → On w out g d sum at written share
+      sum ≡ sumOf w → share ≡ shareOf g (s .samples) (length block - at) → length out ≡ length lent → length w ≡ length w₀ → On w out g d sum at written share
   on w out g d sum at written share go sum-is share-is long wide = record {
     going = go;
     sum-is = sum-is;
@@ -161,30 +178,35 @@ module _ (s : Settings) (w₀ : List ℕ) (block : List ℤ) (lent : List ℕ) (
     long = long;
     wide = wide;
     fits = go .fits;
-    share-in = omega (arith, share-in g (s .samples) (drop at block) share share-is, length-drop at block, go .at-in);
-    share-most = omega (arith, share-most g (s .samples) (drop at block) share share-is, go .valid .gatherer-valid .count-lt);
+    share-in = omega (arith, share-in g (s .samples) (length block - at) share share-is, go .at-in);
+    share-most = omega (arith, share-most g (s .samples) (length block - at) share share-is, go .valid .gatherer-valid .count-lt);
     samples-most = go .valid .settings-valid .samples-most;
     sum-le = go .valid .gatherer-valid .sum-le;
   }
 
-  pub walk-starts : ValidState (stateWith s g₀ d₀ w₀) → (sum : ℕ) (share : Share) → sum ≡ sumOf w₀ → share ≡ shareOf g₀ (s .samples) block → On w₀ lent g₀ d₀ sum 0 0 share
-  walk-starts ok sum share sum-is share-is = on w₀ lent g₀ d₀ sum 0 0 share (going-first (stateWith s g₀ d₀ w₀) block lent ok) sum-is share-is refl refl
+  pub walk-starts : ValidState (stateWith s g₀ d₀ w₀) → (sum : ℕ) (share : Share) → sum ≡ sumOf w₀ → share ≡ shareOf g₀ (s .samples) (length block) → On w₀ lent g₀ d₀ sum 0 0 share
+  walk-starts ok sum share sum-is share-is =
+      let e : length block ≡ length block - 0 = omega arith in
+      on w₀ lent g₀ d₀ sum 0 0 share (going-first (stateWith s g₀ d₀ w₀) block lent ok) sum-is (share-is ∙ ap (shareOf g₀ (s .samples)) e) refl refl
 
   module _ (w out : List ℕ) (g : Gatherer) (d : Detector) (sum at written : ℕ) (share : Share) (inv : On w out g d sum at written share) where
     abbrev st : State
     st = stateWith s g d w
 
     pub share-some : share .completes ≡ true → 0 < share .count
-    share-some completes = omega (arith, share-completes g (s .samples) (drop at block) share (inv .share-is) completes, inv .going .valid .gatherer-valid .count-lt)
+    share-some completes = omega (arith, share-completes g (s .samples) (length block - at) share (inv .share-is) completes, inv .going .valid .gatherer-valid .count-lt)
+
+    pub rest-few : share .completes ≡ false → g .count + length (drop at block) < s .samples
+    rest-few leaves = omega (arith, share-leaves g (s .samples) (length block - at) share (inv .share-is) leaves .1, length-drop at block)
 
     pub rest-most : share .completes ≡ false → g .count + length (take (length block - at) (drop at block)) ≤ 256
     rest-most leaves =
-        omega (arith, share-leaves g (s .samples) (drop at block) share (inv .share-is) leaves .1, inv .samples-most, ap length (rest-is at block))
+        omega (arith, share-leaves g (s .samples) (length block - at) share (inv .share-is) leaves .1, inv .samples-most, ap length (rest-is at block), length-drop at block)
 
     -- a half-cycle is complete
     module _ (completes : share .completes ≡ true) (e : ℕ) (e-of : SumOf e (take (at + share .count - at) (drop at block))) where
       count-is : share .count ≡ missing st
-      count-is = share-completes g (s .samples) (drop at block) share (inv .share-is) completes
+      count-is = share-completes g (s .samples) (length block - at) share (inv .share-is) completes
 
       inside : at + missing st ≤ length block
       inside = omega (arith, count-is, inv .share-in)
@@ -215,20 +237,40 @@ module _ (s : Settings) (w₀ : List ℕ) (block : List ℤ) (lent : List ℕ) (
               going-next (stateWith s g₀ d₀ w₀) block lent out st at written (inv .going) e (h .written) (stateWith s (h .gatherer) (h .detector) w₁) out₁
               inside e-is e-le (sym (is .why-is) ∙ taken) (is .after-is taken) (is .written-is taken) (is .bytes-are taken)
 
+          pub taken-valid : ValidState (stateWith s (h .gatherer) (h .detector) w₁)
+          taken-valid = next .valid
+
           pub taken-fits : written + h .written ≤ room lent
           taken-fits = next .fits
 
           pub taken-count : h .gatherer .count < s .samples
           taken-count = next .valid .gatherer-valid .count-lt
 
-          pub walk-turns : (share₁ : Share) → share₁ ≡ shareOf (h .gatherer) (s .samples) (take (length block - (at + share .count)) (drop (at + share .count) block)) →
+          pub walk-turns : (share₁ : Share) → share₁ ≡ shareOf (h .gatherer) (s .samples) (length block - (at + share .count)) →
               length out₁ ≡ length out → length w₁ ≡ length w →
               On w₁ out₁ (h .gatherer) (h .detector) (h .sum) (at + share .count) (written + h .written) share₁
           walk-turns share₁ share-is long wide =
               let e : at + missing st ≡ at + share .count = ap (λ (k : ℕ). at + k) (sym count-is) in
               on w₁ out₁ (h .gatherer) (h .detector) (h .sum) (at + share .count) (written + h .written) share₁
               (subst (λ (k : ℕ). Going (stateWith s g₀ d₀ w₀) block lent out₁ (stateWith s (h .gatherer) (h .detector) w₁) k (written + h .written)) e next)
-              (is .sum-is taken) (share-is ∙ ap (shareOf (h .gatherer) (s .samples)) (rest-is (at + share .count) block)) (long ∙ inv .long) (wide ∙ inv .wide)
+              (is .sum-is taken) share-is (long ∙ inv .long) (wide ∙ inv .wide)
+
+          -- and a quiet run behind it
+          module _ (n : ℕ) (g₂ : Gatherer) (d₂ : Detector) (w₂ : List ℕ) (quiet : QuietIs (stateWith s (h .gatherer) (h .detector) w₁) (drop (at + share .count) block) n (stateWith s g₂ d₂ w₂)) where
+            ran : Going (stateWith s g₀ d₀ w₀) block lent out₁ (stateWith s g₂ d₂ w₂) (at + share .count + n) (written + h .written)
+            ran =
+                going-run (stateWith s g₀ d₀ w₀) block lent out₁ (stateWith s (h .gatherer) (h .detector) w₁) (at + share .count) (written + h .written)
+                (subst (λ (k : ℕ). Going (stateWith s g₀ d₀ w₀) block lent out₁ (stateWith s (h .gatherer) (h .detector) w₁) k (written + h .written))
+                (ap (λ (k : ℕ). at + k) (sym count-is)) next)
+                n (stateWith s g₂ d₂ w₂) quiet
+
+            pub ran-in : at + share .count + n ≤ length block
+            ran-in = ran .at-in
+
+            pub walk-runs : (sum₂ : ℕ) (share₂ : Share) → sum₂ ≡ sumOf w₂ → share₂ ≡ shareOf g₂ (s .samples) (length block - (at + share .count + n)) →
+                length out₁ ≡ length out → length w₂ ≡ length w → On w₂ out₁ g₂ d₂ sum₂ (at + share .count + n) (written + h .written) share₂
+            walk-runs sum₂ share₂ sum-is share-is long wide =
+                on w₂ out₁ g₂ d₂ sum₂ (at + share .count + n) (written + h .written) share₂ ran sum-is share-is (long ∙ inv .long) (wide ∙ inv .wide)
 
         -- it is not
         pub walk-stops : 0 < h .why → (last : Walked) → Ended g d (take (at + share .count - 1 - at) (drop at block)) (at + share .count - 1) written (h .why) last →
@@ -261,9 +303,9 @@ module _ (s : Settings) (w₀ : List ℕ) (block : List ℤ) (lent : List ℕ) (
     pub walk-ends : share .completes ≡ false → (last : Walked) → Ended g d (take (length block - at) (drop at block)) (at + share .count) written 0 last →
         FedIs (stateWith s g₀ d₀ w₀) block lent (stateWith s (last .gatherer) (last .detector) w) (last .taken) (last .written) (last .why) out
     walk-ends leaves last ended =
-        let left = share-leaves g (s .samples) (drop at block) share (inv .share-is) leaves in
+        let left = share-leaves g (s .samples) (length block - at) share (inv .share-is) leaves in
         let rest : List ℤ = drop at block in
-        let few : g .count + length rest < s .samples = omega (arith, left .1) in
+        let few : g .count + length rest < s .samples = omega (arith, left .1, length-drop at block) in
         let given : List ℤ = take (length block - at) rest in
         let part : given ≡ rest = rest-is at block in
         let end-is : stateWith s (withPart g (length given) (squares given)) d w ≡ withGathered st (length rest) (squares rest) =
@@ -271,7 +313,7 @@ module _ (s : Settings) (w₀ : List ℕ) (block : List ℤ) (lent : List ℕ) (
         ∙ (λ i. stateWith s (sym (gathered-part (s .samples) g (length rest) (squares rest) few) i) d w) in
         let done : FedIs (stateWith s g₀ d₀ w₀) block lent (withGathered st (length rest) (squares rest)) (at + share .count) written 0 out =
         going-last (stateWith s g₀ d₀ w₀) block lent out st at written (inv .going) (withGathered st (length rest) (squares rest)) (length rest) 0 (at + share .count)
-        (feed-rest st rest (room lent - written) (inv .going .valid) few) (ap (λ (k : ℕ). at + k) (left .0))
+        (feed-rest st rest (room lent - written) (inv .going .valid) few) (omega (arith, left .0, length-drop at block))
         (withGathered-valid st (length rest) (squares rest) (inv .going .valid) few (omega (arith, ended .1, ap length part, ap squares part))) in
         fed-as (stateWith s g₀ d₀ w₀) block lent s w last (walkedWith g d given (at + share .count) written 0) (ended .0)
         (withGathered st (length rest) (squares rest)) (sym end-is) out out refl done

@@ -1,4 +1,4 @@
 pub mod HalfWays
 pub mod Shares
 pub mod BlockWays
-pub mod ChunkWays
+pub mod BytesWays

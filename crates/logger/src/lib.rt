@@ -8,7 +8,7 @@ use rvc::Phase;
 use settings::Scaled;
 use settings::Settings;
 ghost use mathlib.Core.Path.{_≡_};
-ghost use Prim.Native.Nat.{_+_, _-_, _*_, _^_, _<_, _≤_, min};
+ghost use Prim.Native.Nat.{_+_, _-_, _*_, _/_, _^_, _<_, _≤_, min};
 ghost use lib.ListN.{length, take, getD};
 ghost use Rattle.settings.specs.Notation.{_<ᵇ_, if_then_else_};
 ghost use Rattle.reading.specs.Values.{squares};
@@ -145,7 +145,7 @@ fn walk(
     let mut sum = window::sum_of(window);
     let mut at: usize = 0;
     let mut written: usize = 0;
-    let mut share = g.share(samples, block);
+    let mut share = g.share(samples, block.len());
     while share.completes {
         let end = at + share.count;
         let squares = rms::sum_squares(&block[at..end]);
@@ -170,29 +170,34 @@ fn walk(
         sum = half.sum;
         written += half.written;
         at = end;
-        share = g.share(samples, &block[at..]);
+        share = g.share(samples, block.len() - at);
     }
     end_walk(g, d, &block[at..], at + share.count, written, 0)
 }
 
-// How many of the samples that are left are decoded at a time: those that complete the half-cycle in progress, or whole half-cycles, so that a quiet run can
-// begin behind them.
-fn chunk_of(left: usize, gatherer: Gatherer, samples: u32) -> usize
-    requires { ⌜ (gatherer .count < samples) × (samples ≤ 256) ⌝ }
-    ensures { λ r. ⌜ (r ≤ left) × (r ≤ 1024) × (min left 1 ≤ r) ⌝ }
+// The end of a walk over bytes, with a last part that leaves the half-cycle in progress incomplete.
+fn end_bytes(
+    gatherer: Gatherer,
+    detector: Detector,
+    part: &[u8],
+    taken: usize,
+    written: usize,
+    why: u32,
+) -> Walked
+    requires { ⌜ (gatherer .count + length (now part) / 2 ≤ 256) × (gatherer .sum ≤ gatherer .count * 2 ^ 30) × (length (now part) ≤ 512) ⌝ }
+    ensures { λ r. ⌜ (r ≡ walkedWith gatherer detector (samplesOf (now (part .entry))) taken written why) × (squares (samplesOf (now (part .entry))) ≤ length (samplesOf (now (part .entry))) * 2 ^ 30) ⌝ }
 {
-    let missing = (samples - gatherer.count) as usize;
-    if left < missing {
-        return left;
+    let squares = rms::sum_squares_in(part);
+    Walked {
+        gatherer: gatherer.with_part((part.len() / 2) as u32, squares),
+        detector,
+        taken,
+        written,
+        why,
     }
-    if 0 < gatherer.count {
-        return missing;
-    }
-    let whole = 1024 - 1024 % samples as usize;
-    if left < whole { left } else { whole }
 }
 
-// The samples of bytes: quiet runs straight from the bytes, and between them chunks that are decoded on the stack.
+// The same walk over the samples that bytes are, squared where they lie, with quiet runs between.
 fn walk_bytes(
     settings: Settings,
     gatherer: Gatherer,
@@ -204,52 +209,47 @@ fn walk_bytes(
     requires { ⌜ ValidState (stateWith settings gatherer detector (now window)) ⌝ }
     ensures { λ r. ⌜ FedIs (stateWith settings gatherer detector (now (window .entry))) (samplesOf (now (bytes .entry))) (now (records .entry)) (stateWith settings (r .gatherer) (r .detector) (now (window .exit))) (r .taken) (r .written) (r .why) (now (records .exit)) ⌝ }
 {
-    let count = bytes.len() / 2;
-    let mut places = [0i16; 1024];
+    let scaled = settings.scaled();
+    let samples = settings.samples;
+    let room = records.len() / 20;
+    let whole = bytes.len() / 2;
     let mut g = gatherer;
     let mut d = detector;
+    let mut sum = window::sum_of(window);
     let mut at: usize = 0;
     let mut written: usize = 0;
-    while at < count {
-        let rest = 2 * at;
-        let run = quiet::take_quiet(settings, g, d, window, &bytes[rest..]);
-        g = run.gatherer;
-        d = run.detector;
-        at += run.taken;
-        let size = chunk_of(count - at, g, settings.samples);
+    let mut share = g.share(samples, whole);
+    while share.completes {
         let start = 2 * at;
-        let end = start + 2 * size;
-        let behind = 20 * written;
-        samples::decode(&bytes[start..end], &mut places[..size]);
-        let walked = walk(
+        let end = at + share.count;
+        let squares = rms::sum_squares_in(&bytes[start..2 * end]);
+        let half = complete(
             settings,
+            scaled,
             g,
             d,
             window,
-            &places[..size],
-            &mut records[behind..],
+            sum,
+            squares,
+            records,
+            20 * written,
+            room - written,
         );
-        g = walked.gatherer;
-        d = walked.detector;
-        written += walked.written;
-        if 0 < walked.why {
-            return Walked {
-                gatherer: g,
-                detector: d,
-                taken: at + walked.taken,
-                written,
-                why: walked.why,
-            };
+        if 0 < half.why {
+            let stop = end - 1;
+            return end_bytes(g, d, &bytes[start..2 * stop], stop, written, half.why);
         }
-        at += size;
+        let begun = half.gatherer;
+        let seen = half.detector;
+        let run = quiet::take_quiet(settings, begun, seen, window, half.sum, &bytes[2 * end..]);
+        g = run.gatherer;
+        d = run.detector;
+        sum = run.sum;
+        written = written + half.written;
+        at = end + run.taken;
+        share = g.share(samples, whole - at);
     }
-    Walked {
-        gatherer: g,
-        detector: d,
-        taken: at,
-        written,
-        why: 0,
-    }
+    end_bytes(g, d, &bytes[2 * at..], at + share.count, written, 0)
 }
 
 // The newest of `count` values, in a window that keeps `size` of them; 0 where there is none.

@@ -286,10 +286,11 @@ module _ (s : Settings) (e₀ v₀ : ℕ) (ring₀ b : List ℕ) where
 
 -- a logger that shows the signs, its window lent as a ring and turned back
 module _ (s : Settings) (g : Gatherer) (d : Detector) (w b : List ℕ) (ok : ValidState (stateWith s g d w)) where
-  pub none-taken : (end : Run) → end ≡ noneTaken g d → QuietIs (stateWith s g d w) (samplesOf b) (end .taken) (stateWith s (end .gatherer) (end .detector) w)
-  none-taken end e =
-      subst (λ (x : Run). QuietIs (stateWith s g d w) (samplesOf b) (x .taken) (stateWith s (x .gatherer) (x .detector) w)) (sym e)
-      (quiet-none (stateWith s g d w) (samplesOf b) ok)
+  pub none-taken : (a : ℕ) → a ≡ sum w → (end : Run) → end ≡ noneTaken g d a →
+      QuietIs (stateWith s g d w) (samplesOf b) (end .taken) (stateWith s (end .gatherer) (end .detector) w) × (end .sum ≡ sum w)
+  none-taken a a-is end e =
+      subst (λ (x : Run). QuietIs (stateWith s g d w) (samplesOf b) (x .taken) (stateWith s (x .gatherer) (x .detector) w) × (x .sum ≡ sum w)) (sym e)
+      (quiet-none (stateWith s g d w) (samplesOf b) ok, a-is)
 
   module _ (signs : QuietSigns g d) (k : ℕ) (k-is : k ≡ windowLength s) where
     many : length (take k w) ≡ k

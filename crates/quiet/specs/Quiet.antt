@@ -58,8 +58,8 @@ pub record QuietSigns (g : Gatherer) (d : Detector) : Type 0 where
   pub whole : g .whole ≡ true
 
 -- a run that takes nothing
-abbrev pub noneTaken : Gatherer → Detector → Run
-noneTaken g d = record { gatherer = g; detector = d; taken = 0 }
+abbrev pub noneTaken : Gatherer → Detector → ℕ → Run
+noneTaken g d sum = record { gatherer = g; detector = d; sum = sum; taken = 0 }
 
 -- the first samples of a block are taken, whatever the room, and no record is due with them
 pub record QuietIs (st : State) (block : List ℤ) (taken : ℕ) (end : State) : Type 0 where

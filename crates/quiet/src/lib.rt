@@ -12,6 +12,7 @@ ghost use mathlib.Core.Bool.{true, false};
 ghost use Prim.Native.Nat.{_+_, _*_, _^_, _≤_, _<_};
 ghost use lib.ListN.{length};
 ghost use Rattle.settings.specs.Notation.{_≡ᵇ_, if_then_else_};
+ghost use Rattle.reading.specs.Changes.{sum as sumOf};
 ghost use Rattle.reading.specs.Feed.{lastValue};
 ghost use Rattle.samples.specs.Samples.{samplesOf};
 ghost use Rattle.window.specs.Bounds.{Holds};
@@ -19,10 +20,11 @@ ghost use Rattle.image.specs.ImageValid.{ValidState};
 ghost use Rattle.machine.specs.Step.{stateWith};
 ghost use Rattle.quiet.specs.Quiet.{isSteady, anyBegins, QuietSigns, noneTaken, QuietIs, CalmedBy, RingReady, RingIs};
 
-// What a run leaves of the logger beside the window, and the samples that it took.
+// What a run leaves of the logger beside the window, the sum of the window, and the samples that it took.
 pub struct Run {
     pub gatherer: Gatherer,
     pub detector: Detector,
+    pub sum: u64,
     pub taken: usize,
 }
 
@@ -181,33 +183,35 @@ fn go_round(settings: Settings, ring: &mut [u32], last: u64, count: u64, bytes: 
     round
 }
 
-fn unchanged(gatherer: Gatherer, detector: Detector) -> Run
-    ensures { λ r. ⌜ r ≡ noneTaken gatherer detector ⌝ }
+fn unchanged(gatherer: Gatherer, detector: Detector, sum: u64) -> Run
+    ensures { λ r. ⌜ r ≡ noneTaken gatherer detector sum ⌝ }
 {
     Run {
         gatherer,
         detector,
+        sum,
         taken: 0,
     }
 }
 
-// Takes the quiet half-cycles in front of the bytes' samples, or some of them: where a run ends is a matter of speed only.
+// Takes the quiet half-cycles in front of the bytes' samples, or some of them: where a run ends is a matter of speed only. `sum` is the sum of the window.
 pub fn take_quiet(
     settings: Settings,
     gatherer: Gatherer,
     detector: Detector,
     window: &mut [u32],
+    sum: u64,
     bytes: &[u8],
 ) -> Run
-    requires { ⌜ ValidState (stateWith settings gatherer detector (now window)) ⌝ }
-    ensures { λ r. ⌜ QuietIs (stateWith settings gatherer detector (now (window .entry))) (samplesOf (now (bytes .entry))) (r .taken) (stateWith settings (r .gatherer) (r .detector) (now (window .exit))) ⌝ }
+    requires { ⌜ ValidState (stateWith settings gatherer detector (now window)) × (sum ≡ sumOf (now window)) ⌝ }
+    ensures { λ r. ⌜ QuietIs (stateWith settings gatherer detector (now (window .entry))) (samplesOf (now (bytes .entry))) (r .taken) (stateWith settings (r .gatherer) (r .detector) (now (window .exit))) × (r .sum ≡ sumOf (now (window .exit))) ⌝ }
 {
     let worth = WORTH * settings.samples as usize;
     if bytes.len() / 2 < worth {
-        return unchanged(gatherer, detector);
+        return unchanged(gatherer, detector, sum);
     }
     if !can_begin(gatherer, detector) {
-        return unchanged(gatherer, detector);
+        return unchanged(gatherer, detector, sum);
     }
     let size = settings.window_length() as usize;
     let round = go_round(
@@ -236,6 +240,7 @@ pub fn take_quiet(
             interruption,
             phase,
         },
+        sum: window::sum_of(window),
         taken: round.taken,
     }
 }

@@ -53,10 +53,10 @@ outOfAll m g [] = []
 outOfAll m g (x ∷ xs) = outOfAll m (gathered m g 1 (square x)) xs ++ out m g 1 (square x)
 
 -- how many samples of a block belong to the half-cycle in progress, and whether they complete it
-abbrev pub shareOf : Gatherer → ℕ → List ℤ → Share
-shareOf g m block =
-    if length block <ᵇ m - g .count
-    then record { count = length block; completes = false }
+abbrev pub shareOf : Gatherer → ℕ → ℕ → Share
+shareOf g m left =
+    if left <ᵇ m - g .count
+    then record { count = left; completes = false }
     else record { count = m - g .count; completes = true }
 
 -- the gatherer read from a recording

@@ -240,14 +240,14 @@ impl Gatherer {
     }
 
     // The one place that decides where a half-cycle ends.
-    pub fn share(self, samples: u32, block: &[i16]) -> Share
+    pub fn share(self, samples: u32, left: usize) -> Share
         requires { ⌜ self .count < samples ⌝ }
-        ensures { λ r. ⌜ r ≡ shareOf self samples (now (block .entry)) ⌝ }
+        ensures { λ r. ⌜ r ≡ shareOf self samples left ⌝ }
     {
         let missing = (samples - self.count) as usize;
-        if block.len() < missing {
+        if left < missing {
             return Share {
-                count: block.len(),
+                count: left,
                 completes: false,
             };
         }

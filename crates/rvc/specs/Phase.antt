@@ -38,6 +38,13 @@ grown n i x stands c = record {
 abbrev pub overAt : ℕ → ℕ → ℕ → Bool → Bool
 overAt n i k calm = if i - k ≤ᵇ n then false else calm
 
+-- whether the signal is so held at value i
+abbrev pub heldAt : ℕ → ℕ → Phase → Bool
+heldAt n i Filling = false
+heldAt n i Unsettled = false
+heldAt n i Steady = false
+heldAt n i (Changing c) = i - c .start ≤ᵇ n
+
 -- the event of the change c, over at value i with the window's sum a
 abbrev pub closing : ℕ → ℕ → ℕ → Change → List Event
 closing n i a c =

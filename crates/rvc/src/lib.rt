@@ -3,11 +3,13 @@ use reading::Event;
 use settings::Scaled;
 use threshold::Ended;
 ghost use mathlib.Core.Path.{_≡_};
-ghost use Prim.Native.Nat.{_-_, _*_, _≤_, max};
+ghost use mathlib.Core.Bool.{false};
+ghost use Prim.Native.Nat.{_-_, _*_, _≤_, _<_, max};
 ghost use Rattle.settings.specs.Notation.{_<ᵇ_, if_then_else_};
 ghost use Rattle.reading.specs.Changes.{gap};
 ghost use Rattle.threshold.specs.Standing.{listOf};
-ghost use Rattle.rvc.specs.Phase.{begun, grown, overAt, closing, limitOf, phaseBy, endedBy, Before, Steps, MovedBy};
+ghost use Rattle.window.specs.Range.{calmWith};
+ghost use Rattle.rvc.specs.Phase.{begun, grown, overAt, heldAt, closing, limitOf, phaseBy, endedBy, Before, Steps, MovedBy};
 
 // A change in progress.
 pub struct Change {
@@ -195,6 +197,30 @@ impl Phase {
         }
     }
 
+    // Whether a change holds the signal false at value i, calm or not: up to k + N.
+    fn holds(self, size: u64, i: u64) -> bool
+        requires { ⌜ Before i self ⌝ }
+        ensures { λ b. ⌜ b ≡ heldAt size i self ⌝ }
+    {
+        match self {
+            Phase::Filling => false,
+            Phase::Unsettled => false,
+            Phase::Steady => false,
+            Phase::Changing(change) => i - change.start <= size,
+        }
+    }
+
+    // Whether a window with this sum is calm. While a change holds the signal nothing depends on it, and the window is not looked at.
+    fn calm(self, scaled: Scaled, size: u64, i: u64, part: &[u32], newest: u32, sum: u64) -> bool
+        requires { ⌜ (0 < size) × (size ≤ 120) × (sum ≤ 62914560) × (limitOf scaled self ≤ 3774873) × Before i self ⌝ }
+        ensures { λ b. ⌜ b ≡ (if heldAt size i self then false else calmWith size sum (limitOf scaled self) (now (part .entry)) newest) ⌝ }
+    {
+        if self.holds(size, i) {
+            return false;
+        }
+        window::calm(part, newest, size, sum, self.limit(scaled))
+    }
+
     // After value i, the newest of a window of `size` whose other values are `part`: `leaving` has left it, and `before` is the sum of part and of that.
     pub fn step(
         self,
@@ -211,7 +237,7 @@ impl Phase {
         ensures { λ r. ⌜ MovedBy scaled size i (now (part .entry)) leaving before newest stands self r ⌝ }
     {
         let after = before - leaving + newest as u64;
-        let calm = window::calm(part, newest, size, after, self.limit(scaled));
+        let calm = self.calm(scaled, size, i, part, newest, after);
         let phase = self.next(size, i, leaving, before, stands, calm);
         let ended = self.ended(size, i, leaving, after, stands, calm);
         Moved { phase, ended }

@@ -1,12 +1,12 @@
 -- The laws of samples in bytes.
-use mathlib.Core.Path.{_≡_, refl, sym, _∙_, ap, ap₂}
-use mathlib.Core.List.{List, [], _∷_, _++_, append-assoc, append-nil}
+use mathlib.Core.Path.{_≡_, refl, sym, _∙_, ap}
+use mathlib.Core.List.{List, [], _∷_, _++_}
 use Prim.Native.Nat.{ℕ, zero, suc, _+_, _-_, _*_, _/_, _≤_, _<_, _^_}
 use native.Mathlib.Omega.{arith}
 use native.Mathlib.Numerals.{add-one}
 use lib.IntN.{ℤ}
-use lib.ListN.{length, take, drop, set, getD, length-drop, take-append-drop}
-use lib.Seq.{drop-cons, take-at, drop-at, take-all, take-suc-set, length-take-le}
+use lib.ListN.{length, take, drop, getD, take-append-drop}
+use lib.Seq.{drop-cons, take-at, drop-at, length-take-le}
 use borrow.Author.Tests.{lt-ltb, le-ltb}
 use mir.Syntax.{w16}
 use mir.Val.{toZ}
@@ -75,19 +75,3 @@ samples-from b i h =
     ∙ ap (λ (l : List ℕ). getD b i 0 ∷ l)
     (ap (λ (j : ℕ). drop j b) (sym (add-one i)) ∙ drop-cons b (i + 1) 0 h ∙ ap (λ (j : ℕ). getD b (i + 1) 0 ∷ drop j b) e) in
     ap samplesOf two ∙ samples-cons _ _ _
-
--- `decode` at work: the samples read so far, and those of what is left
-pub decode-step : (k : ℕ) (out : List ℤ) (b : List ℕ) (t : List ℤ) (x : ℤ) → k < length out → 2 * k + 1 < length b
-    → x ≡ sampleOf (getD b (2 * k) 0) (getD b (2 * k + 1) 0)
-    → take k out ++ samplesOf (drop (2 * k) b) ≡ t → take (k + 1) (set out k x) ++ samplesOf (drop (2 * (k + 1)) b) ≡ t
-decode-step k out b t x h l e inv =
-    let f : 2 * k + 2 ≡ 2 * (k + 1) = omega arith in
-    let s : samplesOf (drop (2 * k) b) ≡ x ∷ samplesOf (drop (2 * (k + 1)) b) =
-    samples-from b (2 * k) l ∙ ap₂ (λ (y : ℤ) (j : ℕ). y ∷ samplesOf (drop j b)) (sym e) f in
-    let i₂ : take k out ++ (x ∷ samplesOf (drop (2 * (k + 1)) b)) ≡ t = ap (λ (q : List ℤ). take k out ++ q) (sym s) ∙ inv in
-    rw (add-one k, take-suc-set out k x h, append-assoc) (rw add-one at i₂)
-
-pub decode-end : (k : ℕ) (out : List ℤ) (b : List ℕ) (t : List ℤ) → k ≡ length out → length b ≡ 2 * k → take k out ++ samplesOf (drop (2 * k) b) ≡ t → out ≡ t
-decode-end k out b t h l e =
-    let none : samplesOf (drop (2 * k) b) ≡ [] = samples-few (drop (2 * k) b) (omega (arith, length-drop (2 * k) b)) in
-    sym (take-all k out (omega arith)) ∙ sym (append-nil (take k out)) ∙ ap (λ (q : List ℤ). take k out ++ q) (sym none) ∙ e

@@ -193,28 +193,14 @@ add-written c =
     let h : l .written + half .result .written < 2 ^ 64 = omega (arith, fits, start .good) in
     record { fits = h }
 
-mul-share : tie.Need-mul-share Inv-loop μ-loop
-mul-share c =
-    let turn = c .before .before .before .before .before .before .before .before .before .before .before .before .before .before .before .before in
-    let start = turn .before .before .before .before .before .before .before in
-    omega (arith, turn .loop .inv .share-in, start .good)
-
 sub-share : tie.Need-sub-share Inv-loop μ-loop
 sub-share c =
     let turn = c .before .before .before .before .before .before .before .before .before .before .before .before .before .before .before .before in
     turn .loop .inv .share-in
 
-part-share-start : tie.Need-part-share-start Inv-loop μ-loop
-part-share-start c =
-    let turn = c .before .before .before .before .before .before .before .before .before .before .before .before .before .before .before .before in
-    let e = turn .loop .inv .share-in in search (needs, e)
-
-part-share-end : tie.Need-part-share-end Inv-loop μ-loop
-part-share-end c = search needs
-
 share-requires-2 : tie.Need-share-requires-2 Inv-loop μ-loop
 share-requires-2 c κs =
-    let first = c .before .before .before .before in
+    let first = c .before .before .before in
     let completed = first .before .before .before .before .before .before in
     let summed = completed .before .before .before in
     let tested = summed .before .before .before in
@@ -231,7 +217,7 @@ share-requires-2 c κs =
 
 loop-less : tie.Need-loop-less Inv-loop μ-loop
 loop-less c =
-    let tested = c .before .before .before .before .before .before .before .before .before .before .before .before .before .before .before .before .before in
+    let tested = c .before .before .before .before .before .before .before .before .before .before .before .before .before .before .before .before in
     let turn = tested .before in
     let start = turn .before .before .before .before .before .before .before in
     let a = start .args in
@@ -245,7 +231,7 @@ loop-less c =
 
 loop-again : tie.Need-loop-again Inv-loop μ-loop
 loop-again c =
-    let first = c .before .before .before .before .before in
+    let first = c .before .before .before .before in
     let completed = first .before .before .before .before .before .before in
     let summed = completed .before .before .before in
     let tested = summed .before .before .before in
@@ -340,10 +326,7 @@ walk-spec =
     same-length-2
     returns
     add-written
-    mul-share
     sub-share
-    part-share-start
-    part-share-end
     share-requires-2
     loop-less
     loop-again

@@ -19,7 +19,7 @@ returns : tie.Need-returns
 returns c =
     let start = c .before .before .before .before .before in
     let a = start .args in
-    none-taken (a .settings) (a .gatherer) (a .detector) (a .window .now) (a .bytes .now) (start .pre) (c .unchanged .result) (c .unchanged .ensures)
+    none-taken (a .settings) (a .gatherer) (a .detector) (a .window .now) (a .bytes .now) (start .pre .0) (a .sum) (start .pre .1) (c .unchanged .result) (c .unchanged .ensures)
 
 can-begin-requires : tie.Need-can-begin-requires
 can-begin-requires c κs = search needs
@@ -31,7 +31,7 @@ returns-2 : tie.Need-returns-2
 returns-2 c =
     let start = c .before .before .before .before .before .before .before in
     let a = start .args in
-    none-taken (a .settings) (a .gatherer) (a .detector) (a .window .now) (a .bytes .now) (start .pre) (c .unchanged2 .result) (c .unchanged2 .ensures)
+    none-taken (a .settings) (a .gatherer) (a .detector) (a .window .now) (a .bytes .now) (start .pre .0) (a .sum) (start .pre .1) (c .unchanged2 .result) (c .unchanged2 .ensures)
 
 window-length-requires : tie.Need-window-length-requires
 window-length-requires c κs = search needs
@@ -52,7 +52,7 @@ go-round-requires c κs =
     let begun = tested .before .can-begin in
     let start = tested .before .before .before .before .before .before in
     let a = start .args in
-    ring-ready (a .settings) (a .gatherer) (a .detector) (a .window .now) (a .bytes .now) (start .pre) (begun .ensures (not-left (begun .result) (tested .if2 .left))) (sized .window-length .result - 0) (omega (arith, sized .window-length .ensures .0))
+    ring-ready (a .settings) (a .gatherer) (a .detector) (a .window .now) (a .bytes .now) (start .pre .0) (begun .ensures (not-left (begun .result) (tested .if2 .left))) (sized .window-length .result - 0) (omega (arith, sized .window-length .ensures .0))
 
 sub-turn : tie.Need-sub-turn
 sub-turn c = search needs
@@ -66,20 +66,36 @@ part-turn-end c = search needs
 turn-requires : tie.Need-turn-requires
 turn-requires c κs = search needs
 
-same-length : tie.Need-same-length
-same-length c = search needs
-
-returns-3 : tie.Need-returns-3
-returns-3 c =
-    let turned = c .before .before .before .before .before in
+sum-of-requires : tie.Need-sum-of-requires
+sum-of-requires c κs =
+    let turned = c .before .before .before .before .before .before in
     let gone = turned .before .before .before .before in
     let sized = gone .before .before in
     let tested = sized .before in
     let begun = tested .before .can-begin in
     let start = tested .before .before .before .before .before .before in
     let a = start .args in
-    run-is (a .settings) (a .gatherer) (a .detector) (a .window .now) (a .bytes .now) (start .pre) (begun .ensures (not-left (begun .result) (tested .if2 .left))) (sized .window-length .result - 0) (omega (arith, sized .window-length .ensures .0))
-    (gone .go-round .result) (gone .go-round .last .1 .0) (turned .turn .last .0) (gone .go-round .ensures) (turned .turn .ensures)
+    let is = run-is (a .settings) (a .gatherer) (a .detector) (a .window .now) (a .bytes .now) (start .pre .0) (begun .ensures (not-left (begun .result) (tested .if2 .left)))
+    (sized .window-length .result - 0) (omega (arith, sized .window-length .ensures .0))
+    (gone .go-round .result) (gone .go-round .last .1 .0) (turned .turn .last .0) (gone .go-round .ensures) (turned .turn .ensures) in
+    omega (arith, is .valid .window-valid .size)
+
+same-length : tie.Need-same-length
+same-length c = search needs
+
+returns-3 : tie.Need-returns-3
+returns-3 c =
+    let turned = c .before .before .before .before .before .before .before in
+    let gone = turned .before .before .before .before in
+    let sized = gone .before .before in
+    let tested = sized .before in
+    let begun = tested .before .can-begin in
+    let start = tested .before .before .before .before .before .before in
+    let a = start .args in
+    let is = run-is (a .settings) (a .gatherer) (a .detector) (a .window .now) (a .bytes .now) (start .pre .0) (begun .ensures (not-left (begun .result) (tested .if2 .left)))
+    (sized .window-length .result - 0) (omega (arith, sized .window-length .ensures .0))
+    (gone .go-round .result) (gone .go-round .last .1 .0) (turned .turn .last .0) (gone .go-round .ensures) (turned .turn .ensures) in
+    (is, c .sum-of .ensures)
 
 pub take-quiet-spec : {M : Type 1} → statement M
 take-quiet-spec =
@@ -101,5 +117,6 @@ take-quiet-spec =
     part-turn-start
     part-turn-end
     turn-requires
+    sum-of-requires
     same-length
     returns-3)
