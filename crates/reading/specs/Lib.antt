@@ -6,3 +6,5 @@ pub mod Image
 pub mod Restore
 pub mod Feed
 pub mod Engineer
+pub mod Bench
+pub mod BenchProof

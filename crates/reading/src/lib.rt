@@ -1,4 +1,5 @@
 // The plain data that the readings in specs/ speak of.
+ghost use Rattle.reading.specs.Bench.{BenchReadings};
 
 // The events that are told by a threshold.
 pub enum Kind {
@@ -36,3 +37,8 @@ pub struct Readings {
     pub swell: bool,
     pub interruption: bool,
 }
+
+// 01's bench readings, marked [t] there, as one promise about the readings: whole recordings in, values, records and counts out.
+pub fn bench_readings()
+    ensures { λ _. ⌜ BenchReadings ⌝ }
+{}

@@ -4,10 +4,10 @@ use mathlib.Core.List.{[], _∷_, _++_}
 use Prim.Native.Nat.{_*_}
 use lib.ListN.{length, take, replicate}
 use Rattle.settings.specs.Settings.{startRefusal, settingsRefusal, samplesGood, frequencyGood, declaredGood, limitGood, levelsGood, orderGood}
 use Rattle.reading.specs.Values.{root, values}
 use Rattle.reading.specs.Image.{imageOf}
 use Rattle.reading.specs.Restore.{restoreRefusal, gathererGood, valuesGood, changeGood, standingGood, eventsGood}
-use Rattle.bench_readings.specs.Bench.{BenchReadings, q, qWith, qWithout, all, change, restless, changing, changingImage, changed, refusals, settingsOut, settingsIn, bodiesOut, bodiesIn, recordsOf}
+use Rattle.reading.specs.Bench.{BenchReadings, q, qWith, qWithout, all, change, restless, changing, changingImage, changed, refusals, settingsOut, settingsIn, bodiesOut, bodiesIn, recordsOf}
 
 q-is-accepted : settingsRefusal q ≡ 0
 unfolding settingsRefusal samplesGood frequencyGood declaredGood limitGood levelsGood orderGood
