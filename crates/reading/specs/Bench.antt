@@ -17,14 +17,14 @@ use Rattle.reading.specs.Restore.{restoreRefusal}
 use Rattle.reading.specs.Feed.{taken, why}
 use Rattle.reading.specs.Engineer.{readings}
 
--- 01's settings Q, with another M and another T
-abbrev pub qWith : ℕ → ℕ → Settings
-qWith m t = record {
+-- 01's settings Q, with an M, a T and an H
+abbrev pub qWith : ℕ → ℕ → ℕ → Settings
+qWith m t h = record {
   samples = m;
   frequency = 50;
   declared = 1600;
   limit = t;
-  reduction = 150;
+  reduction = h;
   interruption = 500;
   dip = 9000;
   swell = 11000;
@@ -32,21 +32,7 @@ qWith m t = record {
 }
 
 abbrev pub q : Settings
-q = qWith 8 300
-
--- Q with an H of 0
-abbrev pub qWithout : Settings
-qWithout = record {
-  samples = 8;
-  frequency = 50;
-  declared = 1600;
-  limit = 300;
-  reduction = 0;
-  interruption = 500;
-  dip = 9000;
-  swell = 11000;
-  hysteresis = 200;
-}
+q = qWith 8 300 150
 
 -- n samples x
 abbrev pub all : ℕ → ℕ → List ℤ
@@ -126,7 +112,7 @@ pub record BenchReadings : Type 0 where
   pub all-zero : values q (all 24 0) ≡ 0 ∷ 0 ∷ []
   -- one 1 among sixteen: 4; with M 256, one among 512: 0
   pub one-of-sixteen : values q (pos 1 ∷ all 15 0) ≡ 4 ∷ []
-  pub one-of-512 : values (qWith 256 300) (pos 1 ∷ all 511 0) ≡ 0 ∷ []
+  pub one-of-512 : values (qWith 256 300 150) (pos 1 ∷ all 511 0) ≡ 0 ∷ []
   -- eight 100s, eight 50s: 1264
   pub hundreds-and-fifties : values q (all 8 100 ++ all 8 50) ≡ 1264 ∷ []
   -- all 90, r = 1440: no dip; all 89, 1424: dip
@@ -144,11 +130,11 @@ pub record BenchReadings : Type 0 where
   pub change-count : length (values q change) ≡ 252
   pub change-due : recordsOf q change ≡ record { kind = 4; start = 151; duration = 1; first = 6368; second = 6368 } ∷ []
   pub change-not-before : recordsOf q (all (150 * 8) 100 ++ all (102 * 8) 96) ≡ []
-  pub change-at-393 : recordsOf (qWith 8 393) change ≡ record { kind = 4; start = 151; duration = 1; first = 6368; second = 6368 } ∷ []
-  pub none-at-394 : recordsOf (qWith 8 394) change ≡ []
+  pub change-at-393 : recordsOf (qWith 8 393 150) change ≡ record { kind = 4; start = 151; duration = 1; first = 6368; second = 6368 } ∷ []
+  pub none-at-394 : recordsOf (qWith 8 394 150) change ≡ []
   -- in a change T − H is in force: a voltage that is calm under T only does not end it, unless H is 0
   pub restless-goes-on : recordsOf q restless ≡ []
-  pub restless-without-H : recordsOf qWithout restless ≡ record { kind = 4; start = 151; duration = 1; first = 9552; second = 6256 } ∷ []
+  pub restless-without-H : recordsOf (qWith 8 300 0) restless ≡ record { kind = 4; start = 151; duration = 1; first = 9552; second = 6256 } ∷ []
   -- the program's samples: dip 3, 3, 800, 0 and V 7, and the record's bytes; with no record room 55 taken, why 1
   pub program-record : recordsOf q program ≡ record { kind = 1; start = 3; duration = 3; first = 800; second = 0 } ∷ []
   pub program-bytes : recordBytes (recordsOf q program) ≡ 1 ∷ 0 ∷ 0 ∷ 0 ∷ 3 ∷ 0 ∷ 0 ∷ 0 ∷ 3 ∷ 0 ∷ 0 ∷ 0 ∷ 32 ∷ 3 ∷ 0 ∷ 0 ∷ 0 ∷ 0 ∷ 0 ∷ 0 ∷ []

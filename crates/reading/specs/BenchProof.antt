@@ -7,7 +7,7 @@ use Rattle.settings.specs.Settings.{startRefusal, settingsRefusal, samplesGood,
 use Rattle.reading.specs.Values.{root, values}
 use Rattle.reading.specs.Image.{imageOf}
 use Rattle.reading.specs.Restore.{restoreRefusal, gathererGood, valuesGood, changeGood, standingGood, eventsGood}
-use Rattle.reading.specs.Bench.{BenchReadings, q, qWith, qWithout, all, change, restless, changing, changingImage, changed, refusals, settingsOut, settingsIn, bodiesOut, bodiesIn, recordsOf}
+use Rattle.reading.specs.Bench.{BenchReadings, q, qWith, all, change, restless, changing, changingImage, changed, refusals, settingsOut, settingsIn, bodiesOut, bodiesIn, recordsOf}
 
 q-is-accepted : settingsRefusal q ≡ 0
 unfolding settingsRefusal samplesGood frequencyGood declaredGood limitGood levelsGood orderGood
@@ -26,7 +26,7 @@ change-is-not-due-before : recordsOf q (all (150 * 8) 100 ++ all (102 * 8) 96) �
 unfolding root
 change-is-not-due-before = refl
 
-change-is-at-393 : recordsOf (qWith 8 393) change ≡ record { kind = 4; start = 151; duration = 1; first = 6368; second = 6368 } ∷ []
+change-is-at-393 : recordsOf (qWith 8 393 150) change ≡ record { kind = 4; start = 151; duration = 1; first = 6368; second = 6368 } ∷ []
 unfolding root
 change-is-at-393 = refl
 
@@ -34,11 +34,11 @@ restless-has-none : recordsOf q restless ≡ []
 unfolding root
 restless-has-none = refl
 
-restless-has-one : recordsOf qWithout restless ≡ record { kind = 4; start = 151; duration = 1; first = 9552; second = 6256 } ∷ []
+restless-has-one : recordsOf (qWith 8 300 0) restless ≡ record { kind = 4; start = 151; duration = 1; first = 9552; second = 6256 } ∷ []
 unfolding root
 restless-has-one = refl
 
-none-is-at-394 : recordsOf (qWith 8 394) change ≡ []
+none-is-at-394 : recordsOf (qWith 8 394 150) change ≡ []
 unfolding root
 none-is-at-394 = refl
 
