@@ -1,5 +1,5 @@
 -- Where each sample's step follows the recording, the greedy feed is the engineer's: the greatest number of samples that 01 allows, their records, and why.
-use mathlib.Core.Path.{_≡_, refl, sym, _∙_, ap, subst}
+use mathlib.Core.Path.{_≡_, refl, sym, _∙_, ap}
 use mathlib.Core.Bool.{Bool, true, false, not, _&&_, and-false}
 use mathlib.Core.List.{List, [], _∷_, _++_, append-nil}
 use Prim.Native.Nat.{ℕ, suc, _+_, _-_, _≤_, _<_}
@@ -13,7 +13,7 @@ use Rattle.settings.specs.declared.Settings.{Settings}
 use Rattle.settings.specs.Notation.{_≤ᵇ_, _<ᵇ_, _≡ᵇ_, if_then_else_}
 use Rattle.settings.specs.NotationLaws.{and-left}
 use Rattle.reading.specs.declared.Event.{Event}
-use Rattle.reading.specs.Values.{Sample, Samples, valueCount}
+use Rattle.reading.specs.Values.{Samples, valueCount}
 use Rattle.reading.specs.Feed.{lastValue, completed, withinEnd, allowed, taken, why}
 use Rattle.reading_laws.specs.Recordings.{samples-append, samples-take, valueCount-grow}
 use Rattle.reading_laws.specs.Completed.{completed-none, completed-add}
