@@ -1,4 +1,4 @@
-// The plain data that the readings in specs/ speak of.
+// The plain data that the readings in specs/ speak of, and the promise of 01's bench readings.
 ghost use Rattle.reading.specs.Bench.{BenchReadings};
 
 // The events that are told by a threshold.
