@@ -25,7 +25,7 @@ use Rattle.greedy.specs.Greedy.{Fed, fedBy, joined}
 use Rattle.greedy.specs.GreedyLaws.{fedBy-ends, fedBy-full, fedBy-takes, fedBy-fits}
 use Rattle.machine.specs.Step.{withValues, dueOn, outOf, withGathered, dueWith, after, machine}
 use Rattle.machine.specs.StepValid.{withValues-gatherer, withValues-count, due-with-most}
-use Rattle.logger.specs.Feed.{FedIs}
+use Rattle.block.specs.Block.{FedIs}
 
 withValues-settings : (rs : List ℕ) (st : State) → withValues rs st .settings ≡ st .settings
 withValues-settings [] st = refl

@@ -14,7 +14,7 @@ ghost use Rattle.settings.specs.Notation.{_≡ᵇ_};
 ghost use Rattle.settings.specs.SettingsLaws.{ValidSettings};
 ghost use Rattle.samples.specs.Samples.{samplesOf};
 ghost use Rattle.image.specs.ImageValid.{ValidState};
-ghost use Rattle.logger.specs.Feed.{FedIs};
+ghost use Rattle.block.specs.Block.{FedIs};
 ghost use Rattle.event_log.specs.Text.{column, kindName, lineOf, linesOf, Put};
 
 const CHUNK_BYTES: usize = 2048;

@@ -20,7 +20,8 @@ use Rattle.image.specs.declared.Answer.{Answer}
 use Rattle.image.specs.declared.Answer.the-variants.{Accepted, Refused}
 use Rattle.image.specs.Image.{imageBytes, stateAt, saveAnswer, savedBytes, restoredFrom, restoredBy}
 use Rattle.machine.specs.Calls.{Outcome, fedWith}
-use Rattle.logger.specs.Feed.{FedIs, RestoredIs}
+use Rattle.block.specs.Block.{FedIs}
+use Rattle.logger.specs.Restored.{RestoredIs}
 use Rattle.host.specs.Host.{advanceRefusal, replied, Advanced, advancedBy, advanced, AdvancedIs}
 
 -- the reply's three numbers, one behind the other

@@ -10,7 +10,6 @@ use Rattle.reading.specs.Restore.{part, restoreRefusal}
 use Rattle.reading.specs.Engineer.{over}
 use Rattle.bodies.specs.Bodies.{gathererBody, valuesBody, detectorNumbers, gathererAt, windowAt, detectorAt}
 use Rattle.image.specs.declared.State.{State}
-use Rattle.image.specs.declared.Answer.{Answer}
 use Rattle.image.specs.declared.Answer.the-variants as answer
 use Rattle.image.specs.declared.Restored.{Restored}
 

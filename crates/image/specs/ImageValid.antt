@@ -1,7 +1,7 @@
 -- The states that refusal 11's rules and valid settings allow: the invariant of a logger.
 use mathlib.Core.Path.{_≡_}
 use mathlib.Core.Bool.{false}
-use Prim.Native.Nat.{ℕ, _≤_}
+use Prim.Native.Nat.{_≤_}
 use Rattle.settings.specs.Settings.{windowLength}
 use Rattle.settings.specs.SettingsLaws.{ValidSettings}
 use Rattle.reading.specs.Feed.{lastValue}

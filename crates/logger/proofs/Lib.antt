@@ -1,4 +1,1 @@
-pub mod HalfWays
-pub mod Shares
-pub mod BlockWays
-pub mod BytesWays
+pub mod Laid

@@ -1,1 +1,1 @@
-pub mod Feed
+pub mod Restored

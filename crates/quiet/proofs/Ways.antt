@@ -41,7 +41,7 @@ use Rattle.machine.specs.Step.{stateWith}
 use Rattle.quiet.specs.declared.Calmed.{Calmed}
 use Rattle.quiet.specs.declared.Round.{Round}
 use Rattle.quiet.specs.declared.Run.{Run}
-use Rattle.quiet.specs.Quiet.{steadyAt, isSteady, anyBegins, QuietSigns, noneTaken, QuietIs, CalmedBy, RingReady, RingIs}
+use Rattle.quiet.specs.Quiet.{steadyAt, isSteady, anyBegins, QuietSigns, withLast, withCount, noneTaken, QuietIs, CalmedBy, RingReady, RingIs}
 use Rattle.quiet.specs.QuietStep.{quiet-none, quiet-more, quiet-half}
 
 -- a test that holds and does not
@@ -286,10 +286,10 @@ module _ (s : Settings) (e₀ v₀ : ℕ) (ring₀ b : List ℕ) where
 
 -- a logger that shows the signs, its window lent as a ring and turned back
 module _ (s : Settings) (g : Gatherer) (d : Detector) (w b : List ℕ) (ok : ValidState (stateWith s g d w)) where
-  pub none-taken : (a : ℕ) → a ≡ sum w → (end : Run) → end ≡ noneTaken g d a →
-      QuietIs (stateWith s g d w) (samplesOf b) (end .taken) (stateWith s (end .gatherer) (end .detector) w) × (end .sum ≡ sum w)
+  pub none-taken : (a : ℕ) → a ≡ sum w → (end : Run) → end ≡ noneTaken (g .last) (d .count) a →
+      QuietIs (stateWith s g d w) (samplesOf b) (end .taken) (stateWith s (withLast g (end .last)) (withCount d (end .count)) w) × (end .sum ≡ sum w)
   none-taken a a-is end e =
-      subst (λ (x : Run). QuietIs (stateWith s g d w) (samplesOf b) (x .taken) (stateWith s (x .gatherer) (x .detector) w) × (x .sum ≡ sum w)) (sym e)
+      subst (λ (x : Run). QuietIs (stateWith s g d w) (samplesOf b) (x .taken) (stateWith s (withLast g (x .last)) (withCount d (x .count)) w) × (x .sum ≡ sum w)) (sym e)
       (quiet-none (stateWith s g d w) (samplesOf b) ok, a-is)
 
   module _ (signs : QuietSigns g d) (k : ℕ) (k-is : k ≡ windowLength s) where
@@ -310,15 +310,13 @@ module _ (s : Settings) (g : Gatherer) (d : Detector) (w b : List ℕ) (ok : Val
     none-is : (v : ℕ) (p : Standing) → ValidStanding v p → p .start ≡ 0 → p ≡ noEvent
     none-is v p valid none = λ i. record { start = none i; magnitude = valid .none-zero none i }
 
-    abbrev stood : ℕ → Detector
-    stood v = record { count = v; dip = d .dip; swell = d .swell; interruption = d .interruption; phase = d .phase }
-
-    state-is : (e v : ℕ) (u : List ℕ) → stateWith s (record { count = 0; sum = 0; last = e; whole = true }) (stood v) u ≡ steadyAt s e v u
+    state-is : (e v : ℕ) (u : List ℕ) → stateWith s (withLast g e) (withCount d v) u ≡ steadyAt s e v u
     state-is e v u =
+        let none : g .sum ≡ 0 = omega (arith, ok .gatherer-valid .sum-le, signs .starts) in
         let valid = ok .detector-valid in
         λ i. record {
           settings = s;
-          gatherer = record { count = 0; sum = 0; last = e; whole = true };
+          gatherer = record { count = signs .starts i; sum = none i; last = e; whole = signs .whole i };
           detector = record {
             count = v;
             dip = none-is (d .count) (d .dip) (valid .dip-valid) (signs .no-dip) i;
@@ -330,19 +328,15 @@ module _ (s : Settings) (g : Gatherer) (d : Detector) (w b : List ℕ) (ok : Val
         }
 
     begins-is : stateWith s g d w ≡ steadyAt s (g .last) (d .count) (take k w ++ drop k w)
-    begins-is =
-        let none : g .sum ≡ 0 = omega (arith, ok .gatherer-valid .sum-le, signs .starts) in
-        (λ i. stateWith s (record { count = signs .starts i; sum = none i; last = g .last; whole = signs .whole i }) d (sym (take-append-drop k w) i))
-        ∙ state-is (g .last) (d .count) (take k w ++ drop k w)
+    begins-is = ap (stateWith s g d) (sym (take-append-drop k w)) ∙ state-is (g .last) (d .count) (take k w ++ drop k w)
 
     pub run-is : (end : Round) (ring₁ ring₂ : List ℕ) → RingIs s (g .last) (d .count) (take k w) b end ring₁ → ring₂ ≡ turned (end .head) (take k (ring₁ ++ drop k w)) →
-        QuietIs (stateWith s g d w) (samplesOf b) (end .taken)
-        (stateWith s (record { count = 0; sum = 0; last = end .last; whole = true }) (stood (end .count)) (ring₂ ++ drop k (ring₁ ++ drop k w)))
+        QuietIs (stateWith s g d w) (samplesOf b) (end .taken) (stateWith s (withLast g (end .last)) (withCount d (end .count)) (ring₂ ++ drop k (ring₁ ++ drop k w)))
     run-is end ring₁ ring₂ is turns =
         let long : length ring₁ ≡ k = is .long ∙ many in
         let window-is : ring₂ ++ drop k (ring₁ ++ drop k w) ≡ turned (end .head) ring₁ ++ drop k w =
         (λ i. (turns ∙ ap (turned (end .head)) (take-at ring₁ (drop k w) k long)) i ++ drop-at ring₁ (drop k w) k long i) in
-        let ends-is : stateWith s (record { count = 0; sum = 0; last = end .last; whole = true }) (stood (end .count)) (ring₂ ++ drop k (ring₁ ++ drop k w))
+        let ends-is : stateWith s (withLast g (end .last)) (withCount d (end .count)) (ring₂ ++ drop k (ring₁ ++ drop k w))
         ≡ steadyAt s (end .last) (end .count) (turned (end .head) ring₁ ++ drop k w) =
         state-is (end .last) (end .count) (ring₂ ++ drop k (ring₁ ++ drop k w)) ∙ ap (steadyAt s (end .last) (end .count)) window-is in
         subst (QuietIs (stateWith s g d w) (samplesOf b) (end .taken)) (sym ends-is)

@@ -57,9 +57,16 @@ pub record QuietSigns (g : Gatherer) (d : Detector) : Type 0 where
   pub starts : g .count ≡ 0
   pub whole : g .whole ≡ true
 
+-- all that a run changes beside the window: the last sum, and the count of values
+abbrev pub withLast : Gatherer → ℕ → Gatherer
+withLast g e = record { count = g .count; sum = g .sum; last = e; whole = g .whole }
+
+abbrev pub withCount : Detector → ℕ → Detector
+withCount d v = record { count = v; dip = d .dip; swell = d .swell; interruption = d .interruption; phase = d .phase }
+
 -- a run that takes nothing
-abbrev pub noneTaken : Gatherer → Detector → ℕ → Run
-noneTaken g d sum = record { gatherer = g; detector = d; sum = sum; taken = 0 }
+abbrev pub noneTaken : ℕ → ℕ → ℕ → Run
+noneTaken e v sum = record { last = e; count = v; sum = sum; taken = 0 }
 
 -- the first samples of a block are taken, whatever the room, and no record is due with them
 pub record QuietIs (st : State) (block : List ℤ) (taken : ℕ) (end : State) : Type 0 where

@@ -9,8 +9,7 @@ use settings::Settings;
 use window::Bounds;
 ghost use mathlib.Core.Path.{_≡_};
 ghost use mathlib.Core.Bool.{true, false};
-ghost use Prim.Native.Nat.{_+_, _*_, _^_, _≤_, _<_};
-ghost use lib.ListN.{length};
+ghost use Prim.Native.Nat.{_+_, _*_, _≤_, _<_};
 ghost use Rattle.settings.specs.Notation.{_≡ᵇ_, if_then_else_};
 ghost use Rattle.reading.specs.Changes.{sum as sumOf};
 ghost use Rattle.reading.specs.Feed.{lastValue};
@@ -18,12 +17,13 @@ ghost use Rattle.samples.specs.Samples.{samplesOf};
 ghost use Rattle.window.specs.Bounds.{Holds};
 ghost use Rattle.image.specs.ImageValid.{ValidState};
 ghost use Rattle.machine.specs.Step.{stateWith};
-ghost use Rattle.quiet.specs.Quiet.{isSteady, anyBegins, QuietSigns, noneTaken, QuietIs, CalmedBy, RingReady, RingIs};
+ghost use Rattle.quiet.specs.Quiet.{isSteady, anyBegins, QuietSigns, withLast, withCount, noneTaken, QuietIs, CalmedBy, RingReady, RingIs};
 
-// What a run leaves of the logger beside the window, the sum of the window, and the samples that it took.
+// What a run leaves: the last half-cycle's sum of squares, the count of values, the sum of the window, and the samples that it took. Nothing else changes but
+// the window.
 pub struct Run {
-    pub gatherer: Gatherer,
-    pub detector: Detector,
+    pub last: u64,
+    pub count: u64,
     pub sum: u64,
     pub taken: usize,
 }
@@ -183,12 +183,12 @@ fn go_round(settings: Settings, ring: &mut [u32], last: u64, count: u64, bytes: 
     round
 }
 
-fn unchanged(gatherer: Gatherer, detector: Detector, sum: u64) -> Run
-    ensures { λ r. ⌜ r ≡ noneTaken gatherer detector sum ⌝ }
+fn unchanged(last: u64, count: u64, sum: u64) -> Run
+    ensures { λ r. ⌜ r ≡ noneTaken last count sum ⌝ }
 {
     Run {
-        gatherer,
-        detector,
+        last,
+        count,
         sum,
         taken: 0,
     }
@@ -204,14 +204,14 @@ pub fn take_quiet(
     bytes: &[u8],
 ) -> Run
     requires { ⌜ ValidState (stateWith settings gatherer detector (now window)) × (sum ≡ sumOf (now window)) ⌝ }
-    ensures { λ r. ⌜ QuietIs (stateWith settings gatherer detector (now (window .entry))) (samplesOf (now (bytes .entry))) (r .taken) (stateWith settings (r .gatherer) (r .detector) (now (window .exit))) × (r .sum ≡ sumOf (now (window .exit))) ⌝ }
+    ensures { λ r. ⌜ QuietIs (stateWith settings gatherer detector (now (window .entry))) (samplesOf (now (bytes .entry))) (r .taken) (stateWith settings (withLast gatherer (r .last)) (withCount detector (r .count)) (now (window .exit))) × (r .sum ≡ sumOf (now (window .exit))) ⌝ }
 {
     let worth = WORTH * settings.samples as usize;
     if bytes.len() / 2 < worth {
-        return unchanged(gatherer, detector, sum);
+        return unchanged(gatherer.last, detector.count, sum);
     }
     if !can_begin(gatherer, detector) {
-        return unchanged(gatherer, detector, sum);
+        return unchanged(gatherer.last, detector.count, sum);
     }
     let size = settings.window_length() as usize;
     let round = go_round(
@@ -222,24 +222,9 @@ pub fn take_quiet(
         bytes,
     );
     window::turn(&mut window[0..size], round.head);
-    let dip = detector.dip;
-    let swell = detector.swell;
-    let interruption = detector.interruption;
-    let phase = detector.phase;
     Run {
-        gatherer: Gatherer {
-            count: 0,
-            sum: 0,
-            last: round.last,
-            whole: true,
-        },
-        detector: Detector {
-            count: round.count,
-            dip,
-            swell,
-            interruption,
-            phase,
-        },
+        last: round.last,
+        count: round.count,
         sum: window::sum_of(window),
         taken: round.taken,
     }

@@ -70,11 +70,14 @@ impl Due {
         one(dip.over) + one(swell.over) + one(interruption.over) + one(change.over)
     }
 
-    // Writes their records, by kind, from a place of a buffer on. Every other byte stays.
+    // Writes their records, by kind, from a place of a buffer on. Every other byte stays. At most values there are none.
     pub fn put(self, buffer: &mut [u8], at: usize)
         requires { ⌜ at + 20 * length (eventsOf self) ≤ length (now buffer) ⌝ }
         ensures { λ _. ⌜ now (buffer .exit) ≡ placed at (recordBytes (eventsOf self)) (now (buffer .entry)) ⌝ }
     {
+        if self.count() == 0 {
+            return;
+        }
         let dip = self.dip;
         let swell = self.swell;
         let interruption = self.interruption;

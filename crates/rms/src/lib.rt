@@ -60,24 +60,43 @@ fn square_left(bytes: &[u8], at: usize) -> u32
     square_at(bytes, at)
 }
 
-// The sum of squares of the samples that bytes are, of at most one half-cycle. Two squares are added before they are split: processors multiply
-// samples and add the products of neighbours in one step.
-pub fn sum_squares_in(bytes: &[u8]) -> u64
+// The sum of squares of the samples that bytes are, where they are few.
+fn few_squares_in(bytes: &[u8]) -> u64
     requires { ⌜ length (now bytes) ≤ 512 ⌝ }
     ensures { λ r. ⌜ (r ≡ squares (samplesOf (now (bytes .entry)))) × (r ≤ length (now (bytes .entry)) / 2 * 2 ^ 30) ⌝ }
 {
     let pairs = bytes.len() / 4;
-    let mut low: u32 = 0;
+    let mut sum: u64 = 0;
+    let mut k = 0;
+    while k < pairs {
+        let at = 4 * k;
+        let pair = square_at(bytes, at) + square_at(bytes, at + 2);
+        sum += pair as u64;
+        k += 1;
+    }
+    sum + (square_left(bytes, 4 * pairs) as u64)
+}
+
+// The same of at most one half-cycle: sixteen samples and sixteen more run in lanes of 4 bytes, and what is left are few. Two squares are added before they
+// are summed: processors multiply samples and add the products of neighbours in one step. The pairs are summed twice, whole and wrapping, and by their upper
+// halves. What the upper halves leave out is less than 2^32, so the wrapped sum holds it.
+pub fn sum_squares_in(bytes: &[u8]) -> u64
+    requires { ⌜ length (now bytes) ≤ 512 ⌝ }
+    ensures { λ r. ⌜ (r ≡ squares (samplesOf (now (bytes .entry)))) × (r ≤ length (now (bytes .entry)) / 2 * 2 ^ 30) ⌝ }
+{
+    let pairs = 8 * (bytes.len() / 32);
+    let mut all: u32 = 0;
     let mut high: u32 = 0;
     let mut k = 0;
     while k < pairs {
         let at = 4 * k;
         let pair = square_at(bytes, at) + square_at(bytes, at + 2);
-        low += pair % 65536;
+        all = std::num::wrapping_add_u32(all, pair);
         high += pair / 65536;
         k += 1;
     }
-    65536 * (high as u64) + (low as u64) + (square_left(bytes, 4 * pairs) as u64)
+    let low = std::num::wrapping_sub_u32(all, (high % 65536) * 65536);
+    65536 * (high as u64) + (low as u64) + few_squares_in(&bytes[4 * pairs..])
 }
 
 // The greatest number whose square is at most n: twice the root of its quarter, or one more.
@@ -93,35 +112,16 @@ pub fn root(n: u64) -> u64
     }
 }
 
-// One of Newton's steps towards the root of n.
-fn nearer(n: u64, from: u64) -> u64
-    requires { ⌜ (n < 2 ^ 40) × (from < 2 ^ 42) ⌝ }
-    ensures { λ r. ⌜ r < 2 ^ 42 ⌝ }
-{
-    let above = from + 1;
-    (above + n / above) / 2
-}
-
-// A number near the root of n, from a line that runs near the roots: the root, or one more. It is tested where it is used.
+// A number near the root of n: a line that runs near the roots, then two of Newton's steps. It is the root or one more, and is tested where it is used.
 fn near_root(n: u64) -> u64
     requires { ⌜ n < 2 ^ 40 ⌝ }
-    ensures { λ r. ⌜ r < 2 ^ 42 ⌝ }
+    ensures { λ r. ⌜ r < 2 ^ 40 ⌝ }
 {
     let half = (65 - u64::leading_zeros(n)) / 2;
     let line = 171 * ((n >> half) % 1_099_511_627_776) + (91 << half) % 1_099_511_627_776;
-    nearer(n, nearer(n, line / 256))
-}
-
-// A number, or one less where its square is above n.
-fn lowered(n: u64, number: u64) -> u64
-    requires { ⌜ number < 2 ^ 20 ⌝ }
-    ensures { λ r. ⌜ r < 2 ^ 20 ⌝ }
-{
-    if n < number * number {
-        number - 1
-    } else {
-        number
-    }
+    let first = line / 256 + 1;
+    let second = (first + n / first) / 2 + 1;
+    (second + n / second) / 2
 }
 
 // The root, more quickly: a number near it, tested, and `root` where the test fails.
@@ -135,15 +135,18 @@ fn quick_root(n: u64) -> u64
     if 1_048_576 <= near {
         return root(n);
     }
-    let low = lowered(n, near);
-    if n < low * low {
-        return root(n);
+    if n < near * near {
+        let low = near - 1;
+        if n < low * low {
+            return root(n);
+        }
+        return low;
     }
-    let next = low + 1;
+    let next = near + 1;
     if next * next <= n {
         return root(n);
     }
-    low
+    near
 }
 
 // 256 times the mean square of two neighbouring half-cycles with these sums of squares.

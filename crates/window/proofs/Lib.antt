@@ -1,3 +1,4 @@
 pub mod Loops
 pub mod Ways
 pub mod Turning
+pub mod Rewinding

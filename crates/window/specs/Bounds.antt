@@ -1,7 +1,7 @@
 -- Bounds of values, the test of calm by them, and a ring of values that begins at one of its places.
 use mathlib.Core.Path.{_≡_}
 use mathlib.Core.Bool.{Bool, true, _&&_}
-use mathlib.Core.List.{List, _++_}
+use mathlib.Core.List.{List, [], _∷_, _++_}
 use Prim.Native.Nat.{ℕ, _+_, _*_, min, max}
 use lib.ListN.{take, drop}
 use Rattle.settings.specs.Notation.{_≤ᵇ_, all}
@@ -15,6 +15,11 @@ Holds b l = all (between (b .least) (b .greatest)) l ≡ true
 -- bounds that hold of one value more
 abbrev pub widened : Bounds → ℕ → Bounds
 widened b r = record { least = min (b .least) r; greatest = max (b .greatest) r }
+
+-- the least and the greatest of values; of none at all the ends of the range, so that any value widens them
+abbrev pub boundsOf : List ℕ → Bounds
+boundsOf [] = record { least = 4294967295; greatest = 0 }
+boundsOf (x ∷ l) = widened (boundsOf l) x
 
 -- whether every window of n values within the bounds, with the sum a, is calm under q
 abbrev pub calmWithin : ℕ → ℕ → ℕ → Bounds → Bool

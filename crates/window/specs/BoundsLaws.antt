@@ -1,9 +1,9 @@
 -- Bounds and rings: bounds that pass `calmWithin` show that the window is calm, and stay true of what is written into a ring; a ring with its place h first is the
 -- window, oldest first, and a value written over its oldest joins it at the end.
-use mathlib.Core.Path.{_≡_, refl, ap, ap₂, sym, _∙_}
+use mathlib.Core.Path.{_≡_, refl, ap, ap₂, sym, _∙_, subst}
 use mathlib.Core.Bool.{Bool, true}
 use mathlib.Core.List.{List, [], _∷_, _++_, append-nil, append-assoc}
-use Prim.Native.Nat.{ℕ, zero, suc, _+_, _*_, _≤_, _<_}
+use Prim.Native.Nat.{ℕ, zero, suc, _+_, _*_, _≤_, _<_, min, max}
 use native.Mathlib.Omega.{arith}
 use native.Mathlib.Numerals.{add-one}
 use native.Mathlib.Nat.{mul-comm, suc-mul, le-div-iff-mul-le, div-lt-iff-lt-mul}
@@ -15,7 +15,7 @@ use Rattle.settings.specs.NotationLaws.{and-true, and-left, and-right}
 use Rattle.reading.specs.Changes.{sum}
 use Rattle.window.specs.declared.Bounds.{Bounds}
 use Rattle.window.specs.Range.{lowest, highest, between, calmWith}
-use Rattle.window.specs.Bounds.{Holds, widened, calmWithin, turned}
+use Rattle.window.specs.Bounds.{Holds, widened, boundsOf, calmWithin, turned}
 use Rattle.window.specs.WindowLaws.{sum-append, all-append}
 use Rattle.window.specs.WindowValid.{sum-split}
 
@@ -37,6 +37,26 @@ holds-widened b l r = all-implied _ _ (between-wider (b .least) (b .greatest) (w
 
 pub between-widened : (b : Bounds) (r : ℕ) → between (widened b r .least) (widened b r .greatest) r ≡ true
 between-widened b r = and-true (le-leb (widened b r .least) r (omega arith)) (le-leb r (widened b r .greatest) (omega arith))
+
+-- the least and the greatest of values hold of them; and those of one value more behind them
+holds-of : (l : List ℕ) → Holds (boundsOf l) l
+holds-of [] = refl
+holds-of (x ∷ l) = and-true (between-widened (boundsOf l) x) (holds-widened (boundsOf l) l x (holds-of l))
+
+pub bounds-hold : (b : Bounds) (l : List ℕ) → b ≡ boundsOf l → Holds b l
+bounds-hold b l e = subst (λ (z : Bounds). Holds z l) (sym e) (holds-of l)
+
+min-swap : (a b c : ℕ) → min (min a b) c ≡ min (min a c) b
+min-swap a b c = omega arith
+
+max-swap : (a b c : ℕ) → max (max a b) c ≡ max (max a c) b
+max-swap a b c = omega arith
+
+pub boundsOf-more : (l : List ℕ) (r : ℕ) → boundsOf (l ++ (r ∷ [])) ≡ widened (boundsOf l) r
+boundsOf-more [] r = refl
+boundsOf-more (x ∷ l) r =
+    let b : Bounds = boundsOf l in
+    ap (λ (z : Bounds). widened z x) (boundsOf-more l r) ∙ (λ i. record { least = min-swap (b .least) r x i; greatest = max-swap (b .greatest) r x i })
 
 -- n × greatest ≤ a + q and a − q ≤ n × least put the bounds within the range of calm
 pub calmWithin-calm : (n a q : ℕ) (b : Bounds) (part : List ℕ) (r : ℕ) → 0 < n → calmWithin n a q b ≡ true → Holds b part →

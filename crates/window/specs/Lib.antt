@@ -6,3 +6,5 @@ pub mod Range
 pub mod RangeLaws
 pub mod Bounds
 pub mod BoundsLaws
+pub mod Slide
+pub mod SlideLaws

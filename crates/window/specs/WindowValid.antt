@@ -97,7 +97,7 @@ pushed-valid (suc m) v r w some fits small valid = go (v <ᵇ suc m) refl
     go false e = full-valid m v r w fits (ltb-false v (suc m) e) small valid
 
 -- what a history leaves is valid
-zeros : (n i : ℕ) → getD {A = ℕ} (replicate n 0) i 0 ≡ 0
+pub zeros : (n i : ℕ) → getD {A = ℕ} (replicate n 0) i 0 ≡ 0
 zeros zero i = refl
 zeros (suc n) zero = refl
 zeros (suc n) (suc i) = zeros n i

@@ -1,29 +1,45 @@
-// The window of the last values in a lent slice, oldest first, with 0 in the places not used yet.
+// The window of the last values, 120 places, oldest first, with 0 in those not used yet. It slides along a lent slice of twice its length, so that a value
+// joins it without a shift of the others; behind it the slice is 0.
 ghost use mathlib.Core.Path.{_≡_};
 ghost use Prim.Native.Nat.{_-_, _≤_, _<_, min, max};
 ghost use lib.ListN.{length};
 ghost use Rattle.settings.specs.Notation.{all};
 ghost use Rattle.reading.specs.Changes.{sum as sumOf};
 ghost use Rattle.window.specs.Window.{pushed};
+ghost use Rattle.window.specs.WindowValid.{ValidWindow};
+ghost use Rattle.window.specs.Slide.{windowAt, Slid};
 ghost use Rattle.window.specs.Range.{between, calmWith};
-ghost use Rattle.window.specs.Bounds.{Holds, widened, calmWithin, turned};
+ghost use Rattle.window.specs.Bounds.{widened, boundsOf, calmWithin, turned};
 
-// The value after `count` others joins the window, which keeps `size` of them.
-pub fn push(window: &mut [u32], size: usize, count: usize, value: u32)
-    requires { ⌜ (0 < size) × (size ≤ length (now window)) ⌝ }
-    ensures { λ _. ⌜ now (window .exit) ≡ pushed size count (now (window .entry)) value ⌝ }
+// Brings the window back from the end of its slide to the front.
+fn rewind(slide: &mut [u32])
+    requires { ⌜ length (now slide) ≡ 240 ⌝ }
+    ensures { λ _. ⌜ (windowAt 0 (now (slide .exit)) ≡ windowAt 120 (now (slide .entry))) × Slid 0 (now (slide .exit)) ⌝ }
 {
-    if count < size {
-        window[count] = value;
-        return;
-    }
-    let last = size - 1;
     let mut i: usize = 0;
-    while i < last {
-        window[i] = window[i + 1];
+    while i < 120 {
+        slide[i] = slide[120 + i];
+        slide[120 + i] = 0;
         i += 1;
     }
-    window[last] = value;
+}
+
+// The value after `count` others joins the window at place `from` of its slide, which keeps `size` of them. The window's new place.
+pub fn push(slide: &mut [u32], from: usize, size: usize, count: usize, value: u32) -> usize
+    requires { ⌜ (0 < size) × (size ≤ 120) × Slid from (now slide) × ValidWindow size count (windowAt from (now slide)) ⌝ }
+    ensures { λ r. ⌜ (windowAt r (now (slide .exit)) ≡ pushed size count (windowAt from (now (slide .entry))) value) × Slid r (now (slide .exit)) ⌝ }
+{
+    if count < size {
+        slide[from + count] = value;
+        return from;
+    }
+    if from < 120 {
+        slide[from + size] = value;
+        return from + 1;
+    }
+    rewind(slide);
+    slide[size] = value;
+    1
 }
 
 // The sum of at most 120 values.
@@ -61,20 +77,21 @@ pub fn less(a: u64, b: u64) -> u64
     if a < b { 0 } else { a - b }
 }
 
-// Whether a window of `size` values, the newest and those of `part`, is calm: each value, times the size, lies within `limit` of the window's sum. The
-// test is turned into a range of values once, so that no value is multiplied.
+// Whether a window of `size` values, the newest and those of `part`, is calm: each value, times the size, lies within `limit` of the window's sum. In a change
+// the newest mostly decides. For the others the test is turned into a range of values once, so that none is multiplied.
 pub fn calm(part: &[u32], newest: u32, size: u64, sum: u64, limit: u64) -> bool
     requires { ⌜ (0 < size) × (size ≤ 120) × (sum ≤ 62914560) × (limit ≤ 3774873) ⌝ }
     ensures { λ b. ⌜ b ≡ calmWith size sum limit (now (part .entry)) newest ⌝ }
 {
+    let scaled = size * (newest as u64);
+    if sum + limit < scaled {
+        return false;
+    }
+    if scaled + limit < sum {
+        return false;
+    }
     let lowest = ((less(sum, limit) + (size - 1)) / size) as u32;
     let highest = ((sum + limit) / size) as u32;
-    if newest < lowest {
-        return false;
-    }
-    if highest < newest {
-        return false;
-    }
     all_between(part, lowest, highest)
 }
 
@@ -99,7 +116,7 @@ fn higher(a: u32, b: u32) -> u32
 impl Bounds {
     // The least and the greatest of the values. Of no values at all they are the ends of the range, so that any value widens them.
     pub fn of(part: &[u32]) -> Bounds
-        ensures { λ r. ⌜ Holds r (now (part .entry)) ⌝ }
+        ensures { λ r. ⌜ r ≡ boundsOf (now (part .entry)) ⌝ }
     {
         let mut least: u32 = 4_294_967_295;
         let mut greatest: u32 = 0;
@@ -140,6 +157,26 @@ fn copy(from: &[u32], to: &mut [u32])
         to[i] = from[i];
         i += 1;
     }
+}
+
+// A slide with a window at its front.
+pub fn laid(window: &[u32]) -> [u32; 240]
+    requires { ⌜ length (now window) ≡ 120 ⌝ }
+    ensures { λ r. ⌜ (windowAt 0 r ≡ now (window .entry)) × Slid 0 r ⌝ }
+{
+    let mut slide = [0u32; 240];
+    copy(window, &mut slide[0..120]);
+    slide
+}
+
+// The window at a place of its slide.
+pub fn lifted(slide: &[u32], from: usize) -> [u32; 120]
+    requires { ⌜ Slid from (now slide) ⌝ }
+    ensures { λ r. ⌜ r ≡ windowAt from (now (slide .entry)) ⌝ }
+{
+    let mut window = [0u32; 120];
+    copy(&slide[from..from + 120], &mut window);
+    window
 }
 
 // Turns a ring, so that its place `head` comes first: what comes before it is put behind the rest.

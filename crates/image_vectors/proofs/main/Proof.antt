@@ -1,6 +1,5 @@
 -- The invariant: the lengths of the arrays.
 use borrow.Author.Needs.{needs}
-use native.Mathlib.Omega.{arith}
 use lib.ListN.{length}
 use mathlib.Core.Path.{_≡_}
 use Rattle.image_vectors.proofs.main.Statement.{statement}

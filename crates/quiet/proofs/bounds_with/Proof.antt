@@ -5,7 +5,7 @@ use borrow.Author.Needs.{needs}
 use Rattle.window.specs.declared.Bounds.{Bounds}
 use Rattle.window.specs.Range.{between}
 use Rattle.window.specs.Bounds.{Holds}
-use Rattle.window.specs.BoundsLaws.{holds-widened, between-widened}
+use Rattle.window.specs.BoundsLaws.{holds-widened, between-widened, bounds-hold}
 use Rattle.quiet.proofs.bounds_with.Statement.{statement}
 use Rattle.quiet.proofs.bounds_with.Tie as tie
 
@@ -42,7 +42,7 @@ returns-2 c =
     let fresh = c .before .with2 in
     let taken = c .before .before .of in
     record {
-      holds = subst (λ (b : Bounds). Holds b (a .ring .now)) (sym (fresh .ensures)) (holds-widened (taken .result) (a .ring .now) (a .value) (taken .ensures));
+      holds = subst (λ (b : Bounds). Holds b (a .ring .now)) (sym (fresh .ensures)) (holds-widened (taken .result) (a .ring .now) (a .value) (bounds-hold (taken .result) (a .ring .now) (taken .ensures)));
       inside = subst (λ (b : Bounds). between (b .least) (b .greatest) (a .value) ≡ true) (sym (fresh .ensures)) (between-widened (taken .result) (a .value));
       calm = λ e. sym (c .calm2 .ensures) ∙ e;
     }

@@ -4,6 +4,7 @@ use native.Mathlib.Omega.{arith}
 use lib.ListN.{length, drop, set, getD, length-take, length-set}
 use borrow.Author.Needs.{needs}
 use Rattle.settings.specs.SettingsLaws.{windowLength-some, windowLength-most}
+use Rattle.window.specs.BoundsLaws.{bounds-hold}
 use Rattle.quiet.proofs.Ways.{not-left, On, round-starts, round-ends, leaving-le, limit-le, size-le, after-le, round-goes-on}
 use Rattle.quiet.proofs.go_round.Statement.{statement}
 use Rattle.quiet.proofs.go_round.Tie as tie
@@ -39,7 +40,7 @@ loop-holds : tie.Need-loop-holds Inv-loop μ-loop
 loop-holds c =
     let start = c .before .before .before .before .before .before .before .before .before in
     let a = start .args in
-    round-starts (a .settings) (a .last) (a .count) (a .ring .now) (a .bytes .now) (start .pre) (c .before .before .before .sum-of .result) (c .before .of .result) (c .before .before .before .sum-of .ensures) (c .before .of .ensures)
+    round-starts (a .settings) (a .last) (a .count) (a .ring .now) (a .bytes .now) (start .pre) (c .before .before .before .sum-of .result) (c .before .of .result) (c .before .before .before .sum-of .ensures) (bounds-hold (c .before .of .result) (a .ring .now) (c .before .of .ensures))
 
 sub-if1 : tie.Need-sub-if1 Inv-loop μ-loop
 sub-if1 c =

@@ -68,7 +68,7 @@ turn-requires c κs = search needs
 
 sum-of-requires : tie.Need-sum-of-requires
 sum-of-requires c κs =
-    let turned = c .before .before .before .before .before .before in
+    let turned = c .before .before .before in
     let gone = turned .before .before .before .before in
     let sized = gone .before .before in
     let tested = sized .before in
@@ -85,7 +85,7 @@ same-length c = search needs
 
 returns-3 : tie.Need-returns-3
 returns-3 c =
-    let turned = c .before .before .before .before .before .before .before in
+    let turned = c .before .before .before .before in
     let gone = turned .before .before .before .before in
     let sized = gone .before .before in
     let tested = sized .before in

@@ -1,15 +1,38 @@
--- The code's two ends are `lowest` and `highest`: `less` is the difference, and both fit 32 bits, as no quotient is above what is divided. What each way out
--- answers stands in Ways.
+-- The newest value is tested as it stands, the others by the code's two ends, which are `lowest` and `highest`: `less` is the difference, and both fit 32
+-- bits, as no quotient is above what is divided. What each way out answers stands in Ways.
 use mathlib.Core.Path.{ap, _∙_}
-use Prim.Native.Nat.{ℕ}
-use native.Mathlib.Nat.{div-le-self, lt-of-le-of-lt}
+use Prim.Native.Nat.{ℕ, _≤_}
+use native.Mathlib.Nat.{div-le-self, lt-of-le-of-lt, mul-le-mul}
 use native.Mathlib.Omega.{arith}
 use borrow.Author.Needs.{needs}
 use Rattle.settings.specs.Notation.{all}
 use Rattle.window.specs.Range.{highest, between}
-use Rattle.window.proofs.Ways.{lowest-is, newest-below, newest-above, newest-in}
+use Rattle.window.proofs.Ways.{lowest-is, newest-above, newest-below, newest-in}
 use Rattle.window.proofs.calm.Statement.{statement}
 use Rattle.window.proofs.calm.Tie as tie
+
+mul-scaled : tie.Need-mul-scaled
+mul-scaled c =
+    let a = c .before .args in
+    let most : a .size ≤ 120 = omega arith in
+    let newest : a .newest ≤ 4294967295 = omega arith in
+    record { fits = omega (arith, mul-le-mul most newest) }
+
+add-if1 : tie.Need-add-if1
+add-if1 c = search needs
+
+returns : tie.Need-returns
+returns c =
+    let a = c .before .before .args in
+    newest-above (a .size) (a .sum) (a .limit) (a .newest) (a .part .now) (omega arith) (omega arith)
+
+add-if2 : tie.Need-add-if2
+add-if2 c = search needs
+
+returns-2 : tie.Need-returns-2
+returns-2 c =
+    let a = c .before .before .before .args in
+    newest-below (a .size) (a .sum) (a .limit) (a .newest) (a .part .now) (omega arith) (omega arith)
 
 less-requires : tie.Need-less-requires
 less-requires c κs = search needs
@@ -35,34 +58,27 @@ div-highest c = search needs
 cast-highest : tie.Need-cast-highest
 cast-highest c = record { fits = lt-of-le-of-lt (div-le-self _ _) (omega arith) }
 
-returns : tie.Need-returns
-returns c =
-    let a = c .before .before .before .args in
-    let low = lowest-is (a .size) (a .sum) (a .limit) (c .before .less .result) (c .before .less .ensures) in
-    newest-below (a .size) (a .sum) (a .limit) (a .newest) (a .part .now) (omega arith)
-
-returns-2 : tie.Need-returns-2
-returns-2 c =
-    let a = c .before .before .before .before .args in
-    let low = lowest-is (a .size) (a .sum) (a .limit) (c .before .before .less .result) (c .before .before .less .ensures) in
-    newest-above (a .size) (a .sum) (a .limit) (a .newest) (a .part .now) (omega arith) (omega arith)
-
 all-between-requires : tie.Need-all-between-requires
 all-between-requires c κs = search needs
 
 returns-3 : tie.Need-returns-3
 returns-3 c =
+    let less = c .before .less in
     let a = c .before .before .before .before .before .args in
-    let less = c .before .before .before .less in
     let low = lowest-is (a .size) (a .sum) (a .limit) (less .result) (less .ensures) in
     c .all-between .ensures
     ∙ ap (λ (lo : ℕ). all (between lo (highest (a .size) (a .sum) (a .limit))) (a .part .now)) low
-    ∙ newest-in (a .size) (a .sum) (a .limit) (a .newest) (a .part .now) (omega arith) (omega arith)
+    ∙ newest-in (a .size) (a .sum) (a .limit) (a .newest) (a .part .now) (omega arith) (omega arith) (omega arith)
 
 pub calm-spec : {M : Type 1} → statement M
 calm-spec =
     tie.close
     (tie.spec
+    mul-scaled
+    add-if1
+    returns
+    add-if2
+    returns-2
     less-requires
     sub-lowest
     add-lowest
@@ -71,7 +87,5 @@ calm-spec =
     add-highest
     div-highest
     cast-highest
-    returns
-    returns-2
     all-between-requires
     returns-3)

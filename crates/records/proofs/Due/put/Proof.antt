@@ -1,6 +1,6 @@
 -- `Due::put` meets its contract. Each call leaves room for those after it (`length-eventsOf`), and its record stands behind those before it (`placed-records`).
 use mathlib.Core.Path.{_≡_, ap, _∙_}
-use mathlib.Core.List.{List, _++_, append-assoc}
+use mathlib.Core.List.{List, [], _∷_, _++_, append-assoc}
 use Prim.Native.Nat.{ℕ, _+_, _*_, _≤_}
 use native.Mathlib.Omega.{arith}
 use lib.ListN.{length, length-append}
@@ -8,8 +8,8 @@ use borrow.Author.Needs.{needs}
 use Rattle.reading.specs.declared.Event.{Event}
 use Rattle.reading.specs.Records.{recordBytes}
 use Rattle.threshold.specs.Standing.{listOf}
-use Rattle.records.specs.Due.{placed}
-use Rattle.records.specs.DueLaws.{length-eventsOf, placed-records}
+use Rattle.records.specs.Due.{eventsOf, placed}
+use Rattle.records.specs.DueLaws.{length-eventsOf, placed-none, placed-records}
 use Rattle.records.proofs.Due.put.Statement.{statement}
 use Rattle.records.proofs.Due.put.Tie as tie
 
@@ -29,22 +29,36 @@ four-placed at q₁ q₂ q₃ es₁ es₂ es₃ es₄ b b₁ b₂ b₃ b₄ fits
     let g₄ = placed-records at q₃ ((es₁ ++ es₂) ++ es₃) es₄ b b₃ b₄ (omega arith) (omega arith) g₃ h₄ in
     g₄ ∙ ap (λ (es : List Event). placed at (recordBytes es) b) is
 
+-- the records of no event
+none-placed : (at : ℕ) (es : List Event) (b : List ℕ) → length es ≡ 0 → b ≡ placed at (recordBytes es) b
+none-placed at [] b h = placed-none at b
+none-placed at (e ∷ es) b h = absurd (omega arith)
+
+count-requires : tie.Need-count-requires
+count-requires c κs = search needs
+
+returns : tie.Need-returns
+returns c =
+    let counted = c .before .count in
+    let a = c .before .before .before .args in
+    none-placed (a .at) (eventsOf (a .self)) (a .buffer .now) (omega (arith, counted .ensures .0, c .if1 .taken))
+
 put-ended-requires : tie.Need-put-ended-requires
 put-ended-requires c κs =
-    let start = c .before .before .before .before .before .before in
+    let start = c .before .before .before .before .before .before .before .before in
     omega (arith, length-eventsOf (start .args .self), start .pre)
 
 put-ended-requires-2 : tie.Need-put-ended-requires-2
 put-ended-requires-2 c κs =
     let c₁ = c .before .before .before in
-    let start = c₁ .before .before .before .before .before .before .before in
+    let start = c₁ .before .before .before .before .before .before .before .before .before in
     omega (arith, length-eventsOf (start .args .self), start .pre, c₁ .put-ended .ensures .0, c₁ .put-ended .kept)
 
 put-ended-requires-3 : tie.Need-put-ended-requires-3
 put-ended-requires-3 c κs =
     let c₂ = c .before .before .before in
     let c₁ = c₂ .before .before .before .before in
-    let start = c₁ .before .before .before .before .before .before .before in
+    let start = c₁ .before .before .before .before .before .before .before .before .before in
     omega (
       arith,
       length-eventsOf (start .args .self),
@@ -60,7 +74,7 @@ put-ended-requires-4 c κs =
     let c₃ = c .before .before .before in
     let c₂ = c₃ .before .before .before .before in
     let c₁ = c₂ .before .before .before .before in
-    let start = c₁ .before .before .before .before .before .before .before in
+    let start = c₁ .before .before .before .before .before .before .before .before .before in
     omega (
       arith,
       length-eventsOf (start .args .self),
@@ -76,13 +90,13 @@ put-ended-requires-4 c κs =
 same-length : tie.Need-same-length
 same-length c = search needs
 
-returns : tie.Need-returns
-returns c =
+returns-2 : tie.Need-returns-2
+returns-2 c =
     let c₄ = c .before .before in
     let c₃ = c₄ .before .before .before .before in
     let c₂ = c₃ .before .before .before .before in
     let c₁ = c₂ .before .before .before .before in
-    let start = c₁ .before .before .before .before .before .before .before in
+    let start = c₁ .before .before .before .before .before .before .before .before .before in
     let a = start .args in
     let b = a .buffer .now in
     let dip = listOf (a .self .dip) in
@@ -97,9 +111,11 @@ pub put-spec : {M : Type 1} → statement M
 put-spec =
     tie.close
     (tie.spec
+    count-requires
+    returns
     put-ended-requires
     put-ended-requires-2
     put-ended-requires-3
     put-ended-requires-4
     same-length
-    returns)
+    returns-2)

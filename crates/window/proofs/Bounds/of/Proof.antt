@@ -1,20 +1,18 @@
--- The invariant: the bounds hold of the first i values. A turn widens them by the next one.
-use mathlib.Core.Path.{_≡_, refl}
-use mathlib.Core.Bool.{true}
+-- The invariant: the bounds are those of the first i values. A turn widens them by the next one.
+use mathlib.Core.Path.{_≡_, refl, _∙_, ap}
 use Prim.Native.Nat.{_-_, _≤_}
 use native.Mathlib.Omega.{arith}
 use lib.ListN.{length, take}
 use lib.Seq.{take-all}
 use borrow.Author.Needs.{needs}
-use Rattle.settings.specs.Notation.{all}
 use Rattle.window.specs.declared.Bounds.{Bounds}
-use Rattle.window.specs.Range.{between}
-use Rattle.window.proofs.Loops.{holds-more}
+use Rattle.window.specs.Bounds.{boundsOf}
+use Rattle.window.proofs.Loops.{bounds-more}
 use Rattle.window.proofs.Bounds.of.Statement.{statement}
 use Rattle.window.proofs.Bounds.of.Tie as tie
 
 abbrev Inv-loop : tie.InvT-loop
-Inv-loop part least₀ greatest₀ i₀ least greatest i = (i ≤ length part) × (all (between least greatest) (take i part) ≡ true)
+Inv-loop part least₀ greatest₀ i₀ least greatest i = (i ≤ length part) × (record { least = least; greatest = greatest } ≡ boundsOf (take i part))
 
 abbrev μ-loop : tie.MeasureT-loop
 μ-loop part least₀ greatest₀ i₀ least greatest i = length part - i
@@ -45,13 +43,13 @@ loop-again c =
     let part = c .before .before .before .before .before .before .args .part .now in
     let loop = c .before .before .before .before .loop in
     let before : Bounds = record { least = loop .least; greatest = loop .greatest } in
-    (omega arith, holds-more part (loop .i) (omega arith) before _ _ (c .before .lower .ensures) (c .higher .ensures) (loop .inv .1))
+    (omega arith, bounds-more part (loop .i) (omega arith) before _ _ (c .before .lower .ensures) (c .higher .ensures) (loop .inv .1))
 
 returns : tie.Need-returns Inv-loop μ-loop
 returns c =
     let part = c .before .before .before .args .part .now in
     let loop = c .before .loop in
-    rw (take-all (loop .i) part (omega arith)) at (loop .inv .1)
+    loop .inv .1 ∙ ap boundsOf (take-all (loop .i) part (omega arith))
 
 pub of-spec : {M : Type 1} → statement M
 of-spec =
