@@ -1,16 +1,11 @@
-//! Begin and advance over the fast logger, on byte slices, as a host in C calls them.
+//! Begin and advance over the logger, on byte slices, as a host in C calls them.
 
-use crate::image::{opened, IMAGE};
-use crate::limits::Limits;
+use crate::image::IMAGE;
 use crate::logger::Logger;
 
 /// Begin: 1 to 6 for the settings, then 7 for the image's buffer; else 0 and a fresh image.
 pub fn begin(settings: &[u8], image: &mut [u8]) -> u32 {
-    let limits = match Limits::new(settings) {
-        Ok(limits) => limits,
-        Err(number) => return number,
-    };
-    match Logger::fresh(limits).save(image) {
+    match Logger::start(settings).and_then(|x| x.save(image)) {
         Ok(()) => 0,
         Err(number) => number,
     }
@@ -24,15 +19,10 @@ pub fn advance(
     records: &mut [u8],
     reply: &mut [u8],
 ) -> u32 {
-    // Restore, in place: a logger is large to hand on.
-    let (limits, image) = match opened(image) {
-        Ok(x) => x,
+    let mut logger = match Logger::from_image(image) {
+        Ok(logger) => logger,
         Err(number) => return number,
     };
-    let mut logger = Logger::fresh(limits);
-    if !logger.take_bodies(limits, image) {
-        return 11;
-    }
     let (samples, odd) = samples.as_chunks::<2>();
     if !odd.is_empty() {
         return 12;

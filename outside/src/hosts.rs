@@ -16,7 +16,7 @@ pub struct Host {
     pub advance: Advance,
 }
 
-/// The stepper, the fast logger and, with the feature, the proved library.
+/// The stepper, the logger and, with the feature, the proved library.
 pub fn hosts() -> Vec<Host> {
     vec![
         Host { name: "stepper", begin: stepper::begin, advance: stepper::advance },

@@ -1,8 +1,7 @@
-//! Save and restore of the fast logger.
+//! Save and restore of the logger.
 
-use crate::limits::{Limits, NEVER_QUIET};
-use crate::logger::{Change, Event, Logger, Phase};
-use crate::ring::PLACES;
+use crate::limits::Limits;
+use crate::logger::{Change, Event, Logger, Phase, PLACES};
 
 /// Bytes in an image.
 pub const IMAGE: usize = 620;
@@ -39,7 +38,6 @@ impl Logger {
         let Some(b) = buffer.first_chunk_mut::<IMAGE>() else {
             return Err(7);
         };
-        let n = self.limits.n;
         b[..32].copy_from_slice(&TABLE);
         for (j, &x) in self.limits.raw.iter().enumerate() {
             put4(b, 32 + 4 * j, x);
@@ -49,15 +47,10 @@ impl Logger {
         put8(b, 80, self.last);
         put4(b, 88, self.whole as u32);
         put4(b, 92, self.v);
-
-        // Oldest first. Before the ring is full its values begin at place 0.
         let places = b[96..576].as_chunks_mut::<4>().0;
-        let from = if self.v as usize >= n { self.ring.at } else { 0 };
-        let (newer, older) = self.ring.values[..n].split_at(from);
-        for (place, r) in places.iter_mut().zip(older.iter().chain(newer)) {
+        for (place, r) in places.iter_mut().zip(self.window) {
             *place = r.to_le_bytes();
         }
-        places[n..].fill([0; 4]);
 
         let (phase, carried) = match self.phase {
             Phase::Filling => (0, [0; 4]),
@@ -78,28 +71,26 @@ impl Logger {
 
     /// Restore: becomes the image's logger, or gives 8 to 11 and stays as it was.
     pub fn restore(&mut self, bytes: &[u8]) -> Result<(), u32> {
-        let (limits, b) = opened(bytes)?;
-        if self.take_bodies(limits, b) {
-            Ok(())
-        } else {
-            Err(11)
-        }
+        *self = Logger::from_image(bytes)?;
+        Ok(())
     }
 
     /// The logger of an image, or 8 to 11.
-    #[inline]
     pub fn from_image(bytes: &[u8]) -> Result<Logger, u32> {
-        let (limits, b) = opened(bytes)?;
-        let mut logger = Logger::fresh(limits);
-        if logger.take_bodies(limits, b) {
-            Ok(logger)
-        } else {
-            Err(11)
+        let Ok(b) = <&[u8; IMAGE]>::try_from(bytes) else {
+            return Err(8);
+        };
+        if b[..32] != TABLE {
+            return Err(9);
         }
+        let Ok(limits) = Limits::new(&b[32..68]) else {
+            return Err(10);
+        };
+        Logger::from_bodies(limits, b).ok_or(11)
     }
 
-    /// Takes over settings and bodies; if a rule is broken, changes nothing and gives false.
-    pub(crate) fn take_bodies(&mut self, limits: Limits, b: &[u8; IMAGE]) -> bool {
+    /// From settings and bodies; none if a rule is broken.
+    fn from_bodies(limits: Limits, b: &[u8; IMAGE]) -> Option<Logger> {
         let n = limits.n;
 
         // The gatherer.
@@ -114,19 +105,19 @@ impl Logger {
             || last > (limits.m as u64) << 30
             || !marked
         {
-            return false;
+            return None;
         }
 
         // The values.
         let used = n.min(v as usize);
-        let mut values = [0u32; PLACES];
-        for (r, place) in values.iter_mut().zip(b[96..576].as_chunks::<4>().0) {
+        let mut window = [0u32; PLACES];
+        for (r, place) in window.iter_mut().zip(b[96..576].as_chunks::<4>().0) {
             *r = u32::from_le_bytes(*place);
         }
-        let over = values[..used].iter().fold(false, |over, &r| over | (r > TOP));
-        let stray = values[used..].iter().fold(0, |all, &r| all | r);
+        let over = window[..used].iter().fold(false, |over, &r| over | (r > TOP));
+        let stray = window[used..].iter().fold(0, |all, &r| all | r);
         if over || stray != 0 {
-            return false;
+            return None;
         }
 
         // The phase.
@@ -138,14 +129,14 @@ impl Logger {
             stand: get4(b, 592),
         };
         if (code == 0) != ((v as usize) < n) {
-            return false;
+            return None;
         }
         let phase = match code {
             0 => Phase::Filling,
             1 => Phase::NeverSteady,
             2 => Phase::Steady,
             3 => Phase::Change(c),
-            _ => return false,
+            _ => return None,
         };
         let carried = if code == 3 {
             let far = n as u32 * TOP;
@@ -166,35 +157,22 @@ impl Logger {
         let holds =
             |x: Event| x.start <= v && x.magnitude <= TOP && (x.start > 0 || x.magnitude == 0);
         if !carried || !holds(dip) || !holds(swell) || !holds(interruption) {
-            return false;
+            return None;
         }
 
-        self.limits = limits;
-        self.count = count as usize;
-        self.sum = sum;
-        self.last = last;
-        self.whole = mark == 1;
-        self.v = v;
-        self.ring.load(&values, used, n);
-        self.phase = phase;
-        self.dip = dip;
-        self.swell = swell;
-        self.interruption = interruption;
-        self.quiet = NEVER_QUIET;
-        true
+        Some(Logger {
+            limits,
+            count: count as usize,
+            sum,
+            last,
+            whole: mark == 1,
+            v,
+            window,
+            window_sum: window.iter().sum(),
+            phase,
+            dip,
+            swell,
+            interruption,
+        })
     }
-}
-
-/// Length, table and settings of an image: 8, 9, 10.
-pub(crate) fn opened(bytes: &[u8]) -> Result<(Limits, &[u8; IMAGE]), u32> {
-    let Ok(b) = <&[u8; IMAGE]>::try_from(bytes) else {
-        return Err(8);
-    };
-    if b[..32] != TABLE {
-        return Err(9);
-    }
-    let Ok(limits) = Limits::new(&b[32..68]) else {
-        return Err(10);
-    };
-    Ok((limits, b))
 }

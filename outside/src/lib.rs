@@ -3,8 +3,8 @@
 //! Three readings of one paper, written apart from each other:
 //! - the engineer (`engineer`, `readings`, `rules`): keeps the whole recording, reads all anew;
 //! - the stepper (`stepper`): goes on from any accepted image, one sample at a time, naively;
-//! - the logger (`logger`, `limits`, `ring`, `room`, `squares`, `image`, `host`): small state, made
-//!   for speed.
+//! - the logger (`logger`, `limits`, `room`, `squares`, `image`, `host`): small state, half-cycle by
+//!   half-cycle.
 
 pub mod engineer;
 pub mod readings;
@@ -16,7 +16,6 @@ pub mod host;
 pub mod image;
 pub mod limits;
 pub mod logger;
-pub mod ring;
 pub mod room;
 pub mod squares;
 

@@ -1,4 +1,4 @@
-//! Lists of calls with named saves: the engineer and the fast logger, call by call.
+//! Lists of calls with named saves: the engineer and the logger, call by call.
 
 use crate::cases::{damaged, image_of};
 use crate::engineer::{Answer, Call, Engineer};

@@ -1,11 +1,13 @@
-//! The fast logger: a gatherer, a ring of N values with its sum and extremes, the phase, and the
-//! three standing events. Feed does not allocate.
+//! The logger: a gatherer, the window of the last values with its sum, the phase, and the three
+//! standing events. Feed does not allocate.
 
 use crate::engineer::{Fed, Looked};
-use crate::limits::{Limits, NEVER_QUIET};
-use crate::ring::Ring;
-use crate::room::{Room, RECORD};
+use crate::limits::Limits;
+use crate::room::{Record, Room, RECORD};
 use crate::squares::{energy, root, Sample};
+
+/// Most values that are kept.
+pub const PLACES: usize = 120;
 
 /// An event that stands if its start is above 0.
 #[derive(Clone, Copy)]
@@ -16,6 +18,22 @@ pub struct Event {
 
 impl Event {
     pub const NONE: Event = Event { start: 0, magnitude: 0 };
+
+    /// After value i, which is r: while it stands it keeps the least r, or the greatest.
+    fn with(self, i: u32, r: u32, begins: bool, ends: bool, pick: fn(u32, u32) -> u32) -> Event {
+        match self.start {
+            0 if begins => Event { start: i, magnitude: r },
+            0 => Event::NONE,
+            _ if ends => Event::NONE,
+            start => Event { start, magnitude: pick(self.magnitude, r) },
+        }
+    }
+
+    /// The record due at value i, if that ended it.
+    fn record(self, kind: u32, i: u32, after: Event) -> Option<Record> {
+        let ended = self.start > 0 && after.start == 0;
+        ended.then(|| [kind, self.start, i - self.start, self.magnitude, 0])
+    }
 }
 
 /// What a change in progress carries.
@@ -43,40 +61,33 @@ pub struct Logger {
     pub sum: u64,
     pub last: u64,
     pub whole: bool,
-    /// V and the last values.
+    /// V; the last values, at most N, oldest first, the rest 0; and their sum.
     pub v: u32,
-    pub ring: Ring,
+    pub window: [u32; PLACES],
+    pub window_sum: u32,
     pub phase: Phase,
     pub dip: Event,
     pub swell: Event,
     pub interruption: Event,
-    /// The band above while the logger is steady and nothing stands; else no value is in it.
-    pub(crate) quiet: (u32, u32),
 }
 
 impl Logger {
-    /// Start: refusals 1 to 6.
+    /// Start: refusals 1 to 6; else a logger that has taken no sample.
     pub fn start(settings: &[u8]) -> Result<Logger, u32> {
-        Ok(Logger::fresh(Limits::new(settings)?))
-    }
-
-    /// A logger that has taken no sample.
-    #[inline]
-    pub fn fresh(limits: Limits) -> Logger {
-        Logger {
-            limits,
+        Ok(Logger {
+            limits: Limits::new(settings)?,
             count: 0,
             sum: 0,
             last: 0,
             whole: false,
             v: 0,
-            ring: Ring::EMPTY,
+            window: [0; PLACES],
+            window_sum: 0,
             phase: Phase::Filling,
             dip: Event::NONE,
             swell: Event::NONE,
             interruption: Event::NONE,
-            quiet: NEVER_QUIET,
-        }
+        })
     }
 
     /// Feed over sample bytes; `room` takes the records.
@@ -86,225 +97,149 @@ impl Logger {
         Fed { taken: taken as u64, written: (room.used / RECORD) as u64, why }
     }
 
+    /// Takes half-cycle by half-cycle: the samples taken, and why no more.
     fn take(&mut self, block: &[Sample], room: &mut Room) -> (usize, u64) {
-        let m = self.limits.m;
-        // The rest of the half in progress.
         let mut taken = 0;
-        if self.count > 0 {
-            let missing = m - self.count;
-            if block.len() < missing {
-                self.sum += energy(block);
-                self.count += block.len();
+        loop {
+            let rest = &block[taken..];
+            let missing = self.limits.m - self.count;
+            if rest.len() < missing {
+                self.sum += energy(rest);
+                self.count += rest.len();
                 return (block.len(), 0);
             }
-            let e = self.sum + energy(&block[..missing]);
+            let e = self.sum + energy(&rest[..missing]);
             if let Err(why) = self.half(e, room) {
-                return self.stop(block, missing, e, why);
+                // The sample that would end the half-cycle cannot be taken.
+                self.sum = e - energy(&rest[missing - 1..missing]);
+                self.count += missing - 1;
+                return (taken + missing - 1, why);
             }
-            self.count = 0;
-            self.sum = 0;
-            taken = missing;
+            taken += missing;
         }
-        // Whole halves: a run of quiet ones, then one that is not.
-        while block.len() - taken >= m {
-            let (halves, energy_known) = self.quiet_run(&block[taken..]);
-            taken += m * halves;
-            if block.len() - taken < m {
-                break;
-            }
-            let half = &block[taken..taken + m];
-            let e = energy_known.unwrap_or_else(|| energy(half));
-            taken += m;
-            if let Err(why) = self.half(e, room) {
-                return self.stop(block, taken, e, why);
-            }
-        }
-        // The start of the next half.
-        let rest = &block[taken..];
-        self.sum = energy(rest);
-        self.count = rest.len();
-        (block.len(), 0)
-    }
-
-    /// The sample before `end` cannot be taken: it would end a half-cycle of energy e.
-    #[cold]
-    fn stop(&mut self, block: &[Sample], end: usize, e: u64, why: u64) -> (usize, u64) {
-        self.sum = e - energy(&block[end - 1..end]);
-        self.count = self.limits.m - 1;
-        (end - 1, why)
     }
 
     /// Ends a half-cycle of energy e, or says why not and changes nothing.
-    #[inline(always)]
     fn half(&mut self, e: u64, room: &mut Room) -> Result<(), u64> {
         if self.whole {
             if self.v == u32::MAX {
                 return Err(2);
             }
-            let r = root(self.limits.m as u64, self.limits.scale, self.last + e);
-            if !self.value(r, room) {
+            let mean = 128 * (self.last + e) / self.limits.m as u64;
+            if !self.value(root(mean, self.newest() as u64) as u32, room) {
                 return Err(1);
             }
         }
-        self.whole = true;
+        self.count = 0;
+        self.sum = 0;
         self.last = e;
+        self.whole = true;
         Ok(())
     }
 
-    /// Takes whole halves as long as nothing can happen: steady before and after, nothing stands.
-    /// Gives their number, and the energy of the half at which it stopped, if it stopped at one.
-    #[inline(never)]
-    fn quiet_run(&mut self, block: &[Sample]) -> (usize, Option<u64>) {
-        if self.quiet == NEVER_QUIET {
-            return (0, None);
-        }
-        let (m, n) = (self.limits.m, self.limits.n);
-        let scale = self.limits.scale;
-        let far = self.limits.calm;
-        let band = self.quiet;
-        let most = (u32::MAX - self.v) as usize;
-        let ring = &mut self.ring;
-        let mut last = self.last;
-        let mut done = 0;
-        let mut stopped = None;
-        for half in block.chunks_exact(m).take(most) {
-            let e = energy(half);
-            let r = root(m as u64, scale, last + e);
-            let (sum, least, greatest) = ring.with(r);
-            if r.wrapping_sub(band.0) > band.1 || !calm(n, sum, least, greatest, far) {
-                stopped = Some(e);
-                break;
-            }
-            ring.push(r, sum, n);
-            last = e;
-            done += 1;
-        }
-        self.last = last;
-        self.v += done as u32;
-        (done, stopped)
-    }
-
-    /// Takes any value, unless its records do not fit: then nothing changes.
-    #[inline(never)]
+    /// Takes a value, unless its records do not fit: then nothing changes.
     fn value(&mut self, r: u32, room: &mut Room) -> bool {
         let l = &self.limits;
-        let n = l.n;
         let i = self.v + 1;
+        let (dip, swell, interruption) = (self.dip, self.swell, self.interruption);
+        let new_dip = dip.with(i, r, r < l.dip.0, r >= l.dip.1, u32::min);
+        let new_swell = swell.with(i, r, r > l.swell.0, r <= l.swell.1, u32::max);
+        let (below, above) = (r < l.interruption.0, r >= l.interruption.1);
+        let new_interruption = interruption.with(i, r, below, above, u32::min);
+        let begins = new_dip.start == i || new_swell.start == i;
 
-        // Which events end, and which begin.
-        let dip_ends = self.dip.start > 0 && r >= l.dip.1;
-        let swell_ends = self.swell.start > 0 && r <= l.swell.1;
-        let interruption_ends = self.interruption.start > 0 && r >= l.interruption.1;
-        let dip_begins = self.dip.start == 0 && r < l.dip.0;
-        let swell_begins = self.swell.start == 0 && r > l.swell.0;
-        let interruption_begins = self.interruption.start == 0 && r < l.interruption.0;
-        let begins = dip_begins || swell_begins;
-
-        // The phase after this value, and the change that it closes.
-        let full = self.v as usize >= n - 1;
-        let filling = self.v as usize <= n - 1;
-        let (sum, least, greatest) = if filling {
-            self.ring.filling(r)
-        } else if self.ring.at == 0 && !self.ring.tail_known {
-            self.ring.with_first(r, n)
-        } else {
-            self.ring.ready(n);
-            self.ring.with(r)
-        };
-        let mut closed = None;
-        let phase = match self.phase {
-            Phase::Filling | Phase::NeverSteady => {
-                if !full {
-                    Phase::Filling
-                } else if calm(n, sum, least, greatest, l.calm) {
-                    Phase::Steady
-                } else {
-                    Phase::NeverSteady
-                }
-            }
-            Phase::Steady => {
-                if calm(n, sum, least, greatest, l.calm) {
-                    Phase::Steady
-                } else {
-                    let stand = if begins { i } else { 0 };
-                    Phase::Change(Change { k: i, before: self.ring.sum, greatest: 0, stand })
-                }
-            }
-            Phase::Change(mut c) => {
-                // i − N leaves the window; it belongs to the change from k on.
-                let leaving = i - n as u32;
-                if leaving >= c.k {
-                    let d = (n as u32 * self.ring.values[self.ring.at]).abs_diff(c.before);
-                    c.greatest = c.greatest.max(d);
-                }
-                if c.stand == 0 && begins {
-                    c.stand = i;
-                }
-                if leaving > c.k && calm(n, sum, least, greatest, l.calm_back) {
-                    if c.stand == 0 || c.stand > leaving {
-                        closed = Some(c);
-                    }
-                    Phase::Steady
-                } else {
-                    Phase::Change(c)
-                }
-            }
-        };
-
-        // Records of one value: all or none.
-        let due = dip_ends as usize
-            + swell_ends as usize
-            + interruption_ends as usize
-            + closed.is_some() as usize;
-        if due > 0 {
-            if !room.fits(due) {
-                return false;
-            }
-            if dip_ends {
-                room.write(1, self.dip.start, i - self.dip.start, self.dip.magnitude, 0);
-            }
-            if swell_ends {
-                room.write(2, self.swell.start, i - self.swell.start, self.swell.magnitude, 0);
-            }
-            if interruption_ends {
-                let x = self.interruption;
-                room.write(3, x.start, i - x.start, x.magnitude, 0);
-            }
-            if let Some(c) = closed {
-                room.write(4, c.k, i - n as u32 - c.k, c.greatest, sum.abs_diff(c.before));
-            }
+        let leaving = if self.v as usize >= l.n { self.window[0] } else { 0 };
+        let sum = self.window_sum + r - leaving;
+        let (phase, change) = self.signal(r, leaving, sum, begins);
+        let due = [
+            dip.record(1, i, new_dip),
+            swell.record(2, i, new_swell),
+            interruption.record(3, i, new_interruption),
+            change,
+        ];
+        if !room.write(due) {
+            return false;
         }
 
-        follow(&mut self.dip, dip_ends, dip_begins, i, r, u32::min);
-        follow(&mut self.swell, swell_ends, swell_begins, i, r, u32::max);
-        follow(&mut self.interruption, interruption_ends, interruption_begins, i, r, u32::min);
+        (self.dip, self.swell, self.interruption) = (new_dip, new_swell, new_interruption);
         self.phase = phase;
-        self.ring.push(r, sum, n);
+        self.push(r);
+        self.window_sum = sum;
         self.v = i;
-        self.settle();
         true
     }
 
-    /// Sets the band of values that change no event.
-    #[inline]
-    fn settle(&mut self) {
-        let stands = self.dip.start | self.swell.start | self.interruption.start;
-        let steady = matches!(self.phase, Phase::Steady);
-        self.quiet = if steady && stands == 0 && self.ring.tail_known {
-            self.limits.band
-        } else {
-            NEVER_QUIET
+    /// The phase after value V + 1, r, and the record of the change that it closes. `leaving` leaves
+    /// the window, whose sum is then `sum`.
+    fn signal(&self, r: u32, leaving: u32, sum: u32, begins: bool) -> (Phase, Option<Record>) {
+        let n = self.limits.n as u32;
+        let i = self.v + 1;
+        let stand = if begins { i } else { 0 };
+        let phase = match self.phase {
+            Phase::Filling if i < n => Phase::Filling,
+            Phase::Change(mut c) => {
+                // Value i − N leaves the window; it belongs to the change from k on.
+                let left = i - n;
+                if left >= c.k {
+                    c.greatest = c.greatest.max((n * leaving).abs_diff(c.before));
+                }
+                if c.stand == 0 {
+                    c.stand = stand;
+                }
+                if left > c.k && self.calm(r, sum, self.limits.calm_back) {
+                    let shown = c.stand == 0 || c.stand > left;
+                    let record = [4, c.k, left - c.k, c.greatest, sum.abs_diff(c.before)];
+                    return (Phase::Steady, shown.then_some(record));
+                }
+                Phase::Change(c)
+            }
+            _ if self.calm(r, sum, self.limits.calm) => Phase::Steady,
+            Phase::Steady => {
+                Phase::Change(Change { k: i, before: self.window_sum, greatest: 0, stand })
+            }
+            Phase::Filling | Phase::NeverSteady => Phase::NeverSteady,
         };
+        (phase, None)
+    }
+
+    /// Whether the window with r, whose sum is then `sum`, has every N × value within `far` of it.
+    fn calm(&self, r: u32, sum: u32, far: u32) -> bool {
+        let n = self.limits.n;
+        if (n as u32 * r).abs_diff(sum) > far {
+            return false;
+        }
+        let lowest = sum.saturating_sub(far).div_ceil(n as u32);
+        let highest = (sum + far) / n as u32;
+        let first = if self.v as usize >= n { 1 } else { 0 };
+        let others = &self.window[first..][..n - 1];
+        others.iter().fold(true, |calm, &x| calm & (lowest <= x) & (x <= highest))
+    }
+
+    /// A value joins the window.
+    fn push(&mut self, r: u32) {
+        let n = self.limits.n;
+        if self.v as usize >= n {
+            self.window.copy_within(1..n, 0);
+            self.window[n - 1] = r;
+        } else {
+            self.window[self.v as usize] = r;
+        }
+    }
+
+    /// r(V), or 0.
+    fn newest(&self) -> u32 {
+        match self.limits.n.min(self.v as usize) {
+            0 => 0,
+            used => self.window[used - 1],
+        }
     }
 
     pub fn look(&self) -> Looked {
-        let n = self.limits.n;
-        let newest = if self.ring.at == 0 { n - 1 } else { self.ring.at - 1 };
-        let full = self.v as usize >= n;
+        let full = self.v as usize >= self.limits.n;
         Looked {
             v: self.v as u64,
-            r: if self.v > 0 { self.ring.values[newest] as u64 } else { 0 },
-            a: if full { self.ring.sum as u64 } else { 0 },
+            r: self.newest() as u64,
+            a: if full { self.window_sum as u64 } else { 0 },
             phase: match self.phase {
                 Phase::Filling => 0,
                 Phase::NeverSteady => 1,
@@ -313,25 +248,5 @@ impl Logger {
             },
             stand: [self.dip.start > 0, self.swell.start > 0, self.interruption.start > 0],
         }
-    }
-}
-
-/// Whether every N × r of a window with these extremes is within `far` of its sum.
-#[inline(always)]
-fn calm(n: usize, sum: u32, least: u32, greatest: u32, far: i32) -> bool {
-    let above = (n as u32 * greatest) as i32 - sum as i32;
-    let below = sum as i32 - (n as u32 * least) as i32;
-    above.max(below) <= far
-}
-
-/// Brings a standing event up to date with value i.
-#[inline(always)]
-fn follow(x: &mut Event, ends: bool, begins: bool, i: u32, r: u32, pick: fn(u32, u32) -> u32) {
-    if ends {
-        *x = Event::NONE;
-    } else if begins {
-        *x = Event { start: i, magnitude: r };
-    } else if x.start > 0 {
-        x.magnitude = pick(x.magnitude, r);
     }
 }

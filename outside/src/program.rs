@@ -1,4 +1,4 @@
-//! What the event program prints, once by the engineer and once by the fast logger; and the recording
+//! What the event program prints, once by the engineer and once by the logger; and the recording
 //! that it is run on in the gate.
 
 use crate::engineer::Engineer;

@@ -1,4 +1,4 @@
-//! Recordings as the event program reads them: the engineer's text, the fast logger's and, where a
+//! Recordings as the event program reads them: the engineer's text, the logger's and, where a
 //! program is given, what it prints.
 
 use crate::hosts::{demand, Outcome, Run};

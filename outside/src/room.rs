@@ -1,7 +1,10 @@
-//! Where the fast logger writes its records.
+//! Where the logger writes its records.
 
 /// Bytes in a record.
 pub const RECORD: usize = 20;
+
+/// Kind, start, duration, first and second magnitude.
+pub type Record = [u32; 5];
 
 /// Where records go.
 pub struct Room<'a> {
@@ -11,17 +14,17 @@ pub struct Room<'a> {
 }
 
 impl Room<'_> {
-    #[inline]
-    pub fn fits(&self, records: usize) -> bool {
-        (self.bytes.len() - self.used) / RECORD >= records
-    }
-
-    pub fn write(&mut self, kind: u32, start: u32, duration: u32, first: u32, second: u32) {
-        let record = &mut self.bytes[self.used..self.used + RECORD];
-        let numbers = [kind, start, duration, first, second];
-        for (four, x) in record.as_chunks_mut::<4>().0.iter_mut().zip(numbers) {
+    /// Writes the records due at one value: all, or none if they do not fit.
+    pub fn write(&mut self, due: [Option<Record>; 4]) -> bool {
+        let count = due.iter().flatten().count();
+        let Some(room) = self.bytes[self.used..].get_mut(..RECORD * count) else {
+            return false;
+        };
+        let numbers = due.iter().flatten().flatten();
+        for (four, x) in room.as_chunks_mut::<4>().0.iter_mut().zip(numbers) {
             *four = x.to_le_bytes();
         }
-        self.used += RECORD;
+        self.used += RECORD * count;
+        true
     }
 }

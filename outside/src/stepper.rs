@@ -1,5 +1,5 @@
 //! A plain stepper: goes on from any accepted image, one sample at a time, by the paper's rules
-//! and what the image's bodies hold. Slow and simple; it shares no code with the fast logger.
+//! and what the image's bodies hold. Slow and simple; it shares no code with the logger.
 
 use crate::readings::root;
 use crate::rules::{self, eight, four, settings_bytes, table, Settings, END, IMAGE, RECORD, TOP};

@@ -1,5 +1,5 @@
 //! The paper's bench readings, marked [t], and the event program's example. Each feed goes through
-//! the engineer, the fast logger and every host (with the feature, the proved library too).
+//! the engineer, the logger and every host (with the feature, the proved library too).
 
 use outside::engineer::{Engineer, Fed, Looked};
 use outside::hosts::hosts;

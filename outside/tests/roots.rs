@@ -1,4 +1,4 @@
-//! The fast root and the fast sum of squares against the plain ones, at the edges.
+//! The logger's root and sum of squares against the engineer's, at the edges.
 
 use outside::rng::Rng;
 use outside::{readings, squares, waves};
@@ -13,8 +13,11 @@ fn roots_on_both_sides_of_each_step() {
             // The least pair of sums that gives r.
             let pair = (r * r * m + 127) / 128;
             for x in [pair - 1, pair] {
-                let fast = squares::root(m as u64, 128.0 / m as f64, x as u64);
-                assert_eq!(fast as i64, readings::root(m, x), "M {m}, pair {x}");
+                let root = readings::root(m, x);
+                for near in [0, r - 1, r, r + 1, rng.range(0, 524_288)] {
+                    let by_logger = squares::root((128 * x / m) as u64, near as u64);
+                    assert_eq!(by_logger as i64, root, "M {m}, pair {x}, near {near}");
+                }
             }
             assert!(readings::root(m, pair - 1) < r && readings::root(m, pair) >= r);
         }
@@ -28,8 +31,8 @@ fn sums_of_every_length() {
         let random: Vec<i16> = (0..length).map(|_| rng.next() as i16).collect();
         for samples in [vec![-32_768; length], vec![32_767; length], vec![1; length], random] {
             let bytes = waves::bytes(&samples);
-            let fast = squares::energy(bytes.as_chunks::<2>().0);
-            assert_eq!(fast as i64, readings::energy(&samples));
+            let by_logger = squares::energy(bytes.as_chunks::<2>().0);
+            assert_eq!(by_logger as i64, readings::energy(&samples));
         }
     }
 }

@@ -4,7 +4,7 @@ use mathlib.Core.List.{List, [], _∷_, _++_}
 use Prim.Native.Nat.{ℕ, zero, suc, _+_, _*_, _^_}
 use Rattle.octets.specs.Bytes.{bytesOf, words, numberAt, wordsAt}
 use Rattle.settings.specs.declared.Settings.{Settings}
-use Rattle.settings.specs.Notation.{_≤ᵇ_, _<ᵇ_, _≡ᵇ_, if_then_else_, all}
+use Rattle.numbers.specs.Notation.{_≤ᵇ_, _<ᵇ_, _≡ᵇ_, if_then_else_, all}
 use Rattle.reading.specs.Image.{table, flag}
 use Rattle.reading.specs.Restore.{sameBytes, implies, gathererGood, valuesGood, eventsGood}
 use Rattle.rms.specs.declared.Gatherer.{Gatherer}

@@ -1,5 +1,5 @@
--- What the tests of the bodies 2, 3 and 4 say of the numbers that stand there: a test passes exactly where refusal 11's rules allow what is read.
-use mathlib.Core.Path.{_≡_, refl, sym, _∙_, ap}
+-- What the sections' tests say: the table's passes for equal bytes only; those of the bodies 2, 3 and 4 pass exactly where refusal 11's rules allow what is read.
+use mathlib.Core.Path.{_≡_, refl, sym, _∙_, ap, ap₂}
 use mathlib.Core.Bool.{Bool, true, false, _&&_, _||_, Bool·beq as iff}
 use mathlib.Core.List.{List, [], _∷_}
 use Prim.Native.Nat.{ℕ, zero, suc, _+_, _-_, _*_, _^_, min, _≤_, _<_}
@@ -7,15 +7,22 @@ use native.Mathlib.Omega.{arith}
 use lib.ListN.{length, drop, getD}
 use lib.Seq.{getD-drop}
 use borrow.Author.Tests.{eqb-true, eqb-false, eq-eqb, leb-true, le-leb, ltb-true, ltb-false, lt-ltb}
-use Rattle.settings.specs.Notation.{_≤ᵇ_, _<ᵇ_, _≡ᵇ_, if_then_else_, all}
-use Rattle.settings.specs.NotationLaws.{and-true, and-left, and-right, implied, imply}
-use Rattle.reading.specs.Restore.{implies}
+use Rattle.numbers.specs.Notation.{_≤ᵇ_, _<ᵇ_, _≡ᵇ_, if_then_else_, all}
+use Rattle.numbers.specs.NotationLaws.{and-true, and-left, and-right, implied, imply}
+use Rattle.reading.specs.Restore.{sameBytes, implies}
 use Rattle.threshold.specs.declared.Standing.{Standing}
-use Rattle.threshold.specs.StandingValid.{ValidStanding}
-use Rattle.window.specs.WindowValid.{Small, ValidWindow}
+use Rattle.threshold.specs.Standing.{ValidStanding}
+use Rattle.window.specs.Window.{Small, ValidWindow}
 use Rattle.rvc.specs.declared.Change.{Change}
-use Rattle.rvc.specs.PhaseValid.{ValidChange, ValidPhase}
+use Rattle.rvc.specs.Phase.{ValidChange, ValidPhase}
 use Rattle.bodies.specs.Bodies.{phaseNumbers, phaseOfNumber, gathererTest, earlyTest, changeTest, standingTest}
+
+-- the table
+pub same-equal : (xs ys : List ℕ) → sameBytes xs ys ≡ true → xs ≡ ys
+same-equal [] [] e = refl
+same-equal [] (y ∷ ys) e = let z : _≡_ {A = ℕ} 0 1 = cc in absurd (omega arith)
+same-equal (x ∷ xs) [] e = let z : _≡_ {A = ℕ} 0 1 = cc in absurd (omega arith)
+same-equal (x ∷ xs) (y ∷ ys) e = ap₂ _∷_ (eqb-true x y (and-left (x ≡ᵇ y) (sameBytes xs ys) e)) (same-equal xs ys (and-right (x ≡ᵇ y) (sameBytes xs ys) e))
 
 -- body 2: what its test says of its numbers
 pub record GathererFacts (m v count sum last mark : ℕ) : Type 0 where

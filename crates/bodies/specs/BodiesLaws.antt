@@ -8,25 +8,24 @@ use lib.ListN.{length, take, drop, getD, take-append-drop, length-drop}
 use lib.Seq.{take-all, drop-drop}
 use borrow.Author.Tests.{eqb-false, lt-ltb, le-ltb}
 use Rattle.octets.specs.Bytes.{Bytes, bytesOf, words, numberAt, wordsAt}
-use Rattle.octets.specs.BytesLaws.{Words, bytes-append, bytesOf-bytes, words-bytes, length-words}
-use Rattle.octets.specs.BytesLaws.{numberAt-bytesOf, wordsAt-words, bytesOf-numberAt, words-wordsAt}
+use Rattle.octets.specs.BytesLaws.{Words, length-words, numberAt-bytesOf, wordsAt-words, bytesOf-numberAt, words-wordsAt}
 use Rattle.settings.specs.declared.Settings.{Settings}
-use Rattle.settings.specs.Notation.{_≤ᵇ_, _<ᵇ_, _≡ᵇ_, if_then_else_, all}
-use Rattle.settings.specs.NotationLaws.{and-true, and-left, and-right}
+use Rattle.numbers.specs.Notation.{_≤ᵇ_, _<ᵇ_, _≡ᵇ_, if_then_else_, all}
+use Rattle.numbers.specs.NotationLaws.{and-true, and-left, and-right}
 use Rattle.settings.specs.Settings.{windowLength}
 use Rattle.settings.specs.SettingsLaws.{windowLength-most}
 use Rattle.reading.specs.Image.{flag}
 use Rattle.reading.specs.Restore.{gathererGood, valuesGood, changeGood, standingGood, eventsGood}
 use Rattle.rms.specs.declared.Gatherer.{Gatherer}
-use Rattle.rms.specs.GatherLaws.{ValidGatherer, same-gatherer}
+use Rattle.rms.specs.Gather.{ValidGatherer}
 use Rattle.threshold.specs.declared.Standing.{Standing}
-use Rattle.window.specs.WindowValid.{Small, ValidWindow}
+use Rattle.window.specs.Window.{Small, ValidWindow}
 use Rattle.rvc.specs.declared.Change.{Change}
 use Rattle.rvc.specs.declared.Phase.{Phase}
 use Rattle.rvc.specs.declared.Phase.the-variants.{Filling, Unsettled, Steady, Changing}
-use Rattle.rvc.specs.PhaseValid.{ValidPhase}
+use Rattle.rvc.specs.Phase.{ValidPhase}
 use Rattle.detection.specs.declared.Detector.{Detector}
-use Rattle.detection.specs.DetectionValid.{ValidDetector}
+use Rattle.detection.specs.Detection.{ValidDetector}
 use Rattle.bodies.specs.Bodies.{gathererBody, valuesBody, detectorNumbers, gathererAt, windowAt, phaseOfNumber, detectorAt}
 use Rattle.bodies.specs.Bodies.{gathererTest, earlyTest, changeTest, standingTest}
 use Rattle.bodies.specs.BodiesFacts.{GathererFacts, gatherer-facts, facts-gatherer, windowTest, window-facts, facts-window}
@@ -58,14 +57,6 @@ back-flag zero h = refl
 back-flag (suc zero) h = refl
 back-flag (suc (suc x)) h = absurd (omega arith)
 
-pub gathererBody-bytes : (g : Gatherer) → Bytes (gathererBody g)
-gathererBody-bytes g =
-    let mark = bytesOf 4 (flag (g .whole)) in
-    let last = bytesOf 8 (g .last) ++ mark in
-    bytes-append (bytesOf 4 (g .count)) (bytesOf 8 (g .sum) ++ last) (bytesOf-bytes 4 (g .count))
-    (bytes-append (bytesOf 8 (g .sum)) last (bytesOf-bytes 8 (g .sum))
-    (bytes-append (bytesOf 8 (g .last)) mark (bytesOf-bytes 8 (g .last)) (bytesOf-bytes 4 (flag (g .whole)))))
-
 -- gatherer → body → gatherer
 pub record GathererBack (s : Settings) (v : ℕ) (g : Gatherer) : Type 0 where
   pub good : gathererGood s v (gathererBody g) ≡ true
@@ -92,7 +83,9 @@ gatherer-back s v g most valid none =
       good =
           (λ i. gathererTest (s .samples) v (count-is i) (sum-is i) (last-is i) (mark-is i))
           ∙ facts-gatherer (s .samples) v (g .count) (g .sum) (g .last) (flag (g .whole)) facts;
-      read = same-gatherer count-is sum-is last-is (ap (λ (x : ℕ). x ≡ᵇ 1) mark-is ∙ flag-back (g .whole));
+      read =
+          let whole-is = ap (λ (x : ℕ). x ≡ᵇ 1) mark-is ∙ flag-back (g .whole) in
+          λ i. record { count = count-is i; sum = sum-is i; last = last-is i; whole = whole-is i };
     }
 
 -- body → gatherer → body
@@ -132,7 +125,7 @@ module _ (s : Settings) (v : ℕ) (body : List ℕ) (are : Bytes body) (size : l
     none-whole = λ e. good-facts .no-value (no-mark e);
   }
 
--- body 3: its places and bytes
+-- body 3: its places
 small-words : (ns : List ℕ) → Small ns → Words ns
 small-words [] h = tt
 small-words (x ∷ ns) h = (omega (arith, h 0), small-words ns (λ i. h (suc i)))
@@ -143,9 +136,6 @@ length-wordsAt o (suc c) b = ap suc (length-wordsAt (o + 4) c b)
 
 pub length-valuesBody : (v : ℕ) (w : List ℕ) → length w ≡ 120 → length (valuesBody v w) ≡ 484
 length-valuesBody v w size = omega (arith, length-words w)
-
-pub valuesBody-bytes : (v : ℕ) (w : List ℕ) → Bytes (valuesBody v w)
-valuesBody-bytes v w = bytes-append (bytesOf 4 v) (words w) (bytesOf-bytes 4 v) (words-bytes w)
 
 -- window → body → window
 pub record ValuesBack (s : Settings) (v : ℕ) (w : List ℕ) : Type 0 where

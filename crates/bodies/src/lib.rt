@@ -12,7 +12,7 @@ ghost use mathlib.Core.List.{[], _∷_};
 ghost use Prim.Native.Nat.{_*_, _≤_, min};
 ghost use lib.ListN.{length, drop};
 ghost use Rattle.octets.specs.Bytes.{words};
-ghost use Rattle.settings.specs.Notation.{_≤ᵇ_, _≡ᵇ_, all};
+ghost use Rattle.numbers.specs.Notation.{_≤ᵇ_, _≡ᵇ_, all};
 ghost use Rattle.reading.specs.Image.{table, flag};
 ghost use Rattle.bodies.specs.Bodies.{gathererBody, valuesBody, phaseNumbers, detectorNumbers, phaseOfNumber};
 ghost use Rattle.bodies.specs.Bodies.{gathererTest, changeTest, standingTest, phaseTest, earlyTest};
@@ -169,14 +169,7 @@ pub fn put_values(part: &mut [u8], count: u64, window: &[u32])
 fn all_up_to(places: &[u32], most: u32) -> bool
     ensures { λ r. ⌜ r ≡ all (_≤ᵇ most) (now (places .entry)) ⌝ }
 {
-    let mut k = 0;
-    while k < places.len() {
-        if most < places[k] {
-            return false;
-        }
-        k += 1;
-    }
-    true
+    window::all_between(places, 0, most)
 }
 
 // How many places of the window are used.

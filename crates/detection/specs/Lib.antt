@@ -1,4 +1,4 @@
 pub mod Detection
+pub mod DetectionLaws
 pub mod DetectionFollows
 pub mod DetectionValid
-pub mod DetectionSteps

@@ -1,3 +1,4 @@
 pub mod Text
 pub mod TextLaws
-pub mod Chunk
+pub mod Taken
+pub mod TakenLaws

@@ -3,7 +3,7 @@ use mathlib.Core.Path.{_≡_}
 use mathlib.Core.List.{List, [], _∷_, _++_}
 use Prim.Native.Nat.{ℕ, zero, suc, _+_, _*_, _/_, _%_}
 use lib.ListN.{length, take, drop}
-use Rattle.settings.specs.Notation.{_<ᵇ_, _≡ᵇ_, if_then_else_}
+use Rattle.numbers.specs.Notation.{_<ᵇ_, _≡ᵇ_, if_then_else_}
 use Rattle.reading.specs.declared.Event.{Event}
 use Rattle.records.specs.Due.{eventOf}
 

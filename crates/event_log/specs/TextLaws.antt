@@ -10,7 +10,7 @@ use lib.ListN.{length, take, drop, set, getD, length-append, length-drop}
 use lib.Seq.{length-take-le, take-all, take-suc, take-suc-set}
 use borrow.Author.Tests.{lt-ltb, le-ltb, eq-eqb, ne-eqb}
 use Rattle.io.specs.Digits.{digits, glyph, Fewest}
-use Rattle.settings.specs.Notation.{_<ᵇ_, if_then_else_}
+use Rattle.numbers.specs.Notation.{_<ᵇ_, if_then_else_}
 use Rattle.reading.specs.declared.Event.{Event}
 use Rattle.records.specs.Due.{eventOf}
 use Rattle.event_log.specs.Text.{decimalTo, column, dip, swell, interruption, rvc, kindName, lineOf, linesOf, Put}

@@ -1,7 +1,6 @@
 // The event program: settings, then samples, from standard input; a line for each record, and the number of values, to standard output.
 use libc::STDIN_FILENO;
 use libc::STDOUT_FILENO;
-use logger::Fed;
 use logger::Logger;
 use reading::Event;
 use settings::Settings;
@@ -10,23 +9,31 @@ ghost use mathlib.Core.Path.{_≡_};
 ghost use mathlib.Core.Bool.{_&&_};
 ghost use Prim.Native.Nat.{_+_, _*_, _≤_};
 ghost use lib.ListN.{length, take};
-ghost use Rattle.settings.specs.Notation.{_≡ᵇ_};
-ghost use Rattle.settings.specs.SettingsLaws.{ValidSettings};
+ghost use Rattle.numbers.specs.Notation.{_≡ᵇ_};
+ghost use Rattle.settings.specs.Settings.{ValidSettings};
 ghost use Rattle.samples.specs.Samples.{samplesOf};
-ghost use Rattle.image.specs.ImageValid.{ValidState};
-ghost use Rattle.block.specs.Block.{FedIs};
+ghost use Rattle.state.specs.State.{ValidState};
 ghost use Rattle.event_log.specs.Text.{column, kindName, lineOf, linesOf, Put};
+ghost use Rattle.event_log.specs.Taken.{takenFrom};
 
-const CHUNK_BYTES: usize = 2048;
+// The samples that are read at a time, of two bytes each.
+const CHUNK: usize = 1024;
 
-// A chunk of samples completes at most 159 half-cycles, with up to 255 samples of one begun before and 8 or more in each. Each has at most 4 records:
-// a chunk's records always fit.
-const CHUNK_RECORDS: usize = 636;
+const CHUNK_BYTES: usize = 2 * CHUNK;
+
+// The records that a feed has room for. Four are enough: one sample never has more due.
+const RECORDS: usize = 64;
 
 const RECORD: usize = 20;
 
 // The longest line: a kind of 12 letters, four columns of a space and at most 20 digits, and the line's end.
 const LINE: usize = 97;
+
+// The logger after samples, and why it took no more: 0 all taken, 2 V is at its end.
+struct Taken {
+    logger: Logger,
+    why: u32,
+}
 
 // Puts bytes at a place of a text; tells the place behind them.
 fn put(text: &mut [u8], at: usize, bytes: &[u8]) -> usize
@@ -100,13 +107,39 @@ fn put_lines(text: &mut [u8], records: &[u8], count: usize) -> usize
     at
 }
 
-// Feeds the samples of a chunk, all of them up to V's end: its records fit.
-fn feed_chunk(logger: Logger, bytes: &[u8], records: &mut [u8]) -> Fed
-    requires { ⌜ ValidState (logger .state) × (length (now bytes) ≤ 2048) × (length (now records) ≡ 12720) ⌝ }
-    ensures { λ r. ⌜ FedIs (logger .state) (samplesOf (now (bytes .entry))) (now (records .entry)) (r .logger .state) (r .taken) (r .written) (r .why) (now (records .exit)) ⌝ }
-    ensures { λ r. ⌜ (r .why ≡ 1 → ⊥) × (r .written ≤ 636) ⌝ }
+// Feeds samples until all are taken or V is at its end, and prints the lines of their records.
+fn feed_all(logger: Logger, samples: &[i16]) -> Taken
+    requires { ⌜ ValidState (logger .state) ⌝ }
+    ensures { λ r. ⌜ (r ≡ takenFrom logger (now (samples .entry))) × ValidState (r .logger .state) ⌝ }
 {
-    logger.feed_bytes(bytes, records)
+    let mut records = [0u8; RECORD * RECORDS];
+    let mut text = [0u8; LINE * RECORDS];
+    let mut held = logger;
+    let mut at = 0;
+    let mut why = 1;
+    while why == 1 {
+        let fed = held.feed(&samples[at..], &mut records);
+        let told = fed.told;
+        let end = put_lines(&mut text, &records, told.written);
+        io::write_all(STDOUT_FILENO, &text[..end]);
+        held = fed.logger;
+        at += told.taken;
+        why = told.why;
+    }
+    Taken { logger: held, why }
+}
+
+// Feeds the samples of a chunk; a last odd byte is none.
+fn feed_chunk(logger: Logger, bytes: &[u8]) -> Taken
+    requires { ⌜ ValidState (logger .state) × (length (now bytes) ≤ 2048) ⌝ }
+    ensures { λ r. ⌜ (r ≡ takenFrom logger (samplesOf (now (bytes .entry)))) × ValidState (r .logger .state) ⌝ }
+{
+    let count = bytes.len() / 2;
+    let even = 2 * count;
+    let mut space = [0i16; CHUNK];
+    let samples: &mut [i16] = &mut space[..count];
+    samples::decode(&bytes[..even], samples);
+    feed_all(logger, samples)
 }
 
 // Whether there may be more: not behind a short chunk, nor at V's end.
@@ -129,16 +162,12 @@ fn log(settings: Settings)
     io::write_all(STDOUT_FILENO, b"kind start halves first second\n");
     let mut logger = Logger::start(settings);
     let mut bytes = [0u8; CHUNK_BYTES];
-    let mut records = [0u8; RECORD * CHUNK_RECORDS];
-    let mut text = [0u8; LINE * CHUNK_RECORDS];
     let mut more = true;
     while more {
         let got = io::read_full(STDIN_FILENO, &mut bytes);
-        let fed = feed_chunk(logger, &bytes[..got], &mut records);
-        let end = put_lines(&mut text, &records, fed.written);
-        io::write_all(STDOUT_FILENO, &text[..end]);
-        logger = fed.logger;
-        more = goes_on(got, fed.why);
+        let taken = feed_chunk(logger, &bytes[..got]);
+        logger = taken.logger;
+        more = goes_on(got, taken.why);
     }
     let readings = logger.look();
     print_line(b"values ", readings.count);

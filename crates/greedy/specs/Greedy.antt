@@ -4,7 +4,7 @@ use mathlib.Core.List.{List, [], _∷_, _++_}
 use Prim.Native.Nat.{ℕ, _+_, _-_}
 use lib.ListN.{length, take}
 use lib.IntN.{ℤ}
-use Rattle.settings.specs.Notation.{_≤ᵇ_, _<ᵇ_, _≡ᵇ_, if_then_else_}
+use Rattle.numbers.specs.Notation.{_≤ᵇ_, _<ᵇ_, _≡ᵇ_, if_then_else_}
 use Rattle.reading.specs.declared.Event.{Event}
 use Rattle.reading.specs.Feed.{greatestTo}
 
@@ -14,21 +14,21 @@ pub record Machine (St : Type 0) : Type 0 where
   pub dueWith : St → ℤ → List Event
   pub next : St → ℤ → St
 
--- what a feed leaves and tells: the machine, samples taken, the events of the records written, and why it stopped
-pub record Fed (St : Type 0) : Type 0 where
+-- a run of the greedy feed: the machine after it, the samples taken, the events of the records written, and why it stopped
+pub record Run (St : Type 0) : Type 0 where
   pub after : St
-  pub count : ℕ
-  pub records : List Event
-  pub reason : ℕ
+  pub taken : ℕ
+  pub events : List Event
+  pub why : ℕ
 
-abbrev pub stopped : {St : Type 0} → St → ℕ → Fed St
-stopped st y = record { after = st; count = 0; records = []; reason = y }
+abbrev pub stopped : {St : Type 0} → St → ℕ → Run St
+stopped st y = record { after = st; taken = 0; events = []; why = y }
 
-abbrev pub joined : {St : Type 0} → ℕ → List Event → Fed St → Fed St
-joined n es r = record { after = r .after; count = n + r .count; records = es ++ r .records; reason = r .reason }
+abbrev pub joined : {St : Type 0} → ℕ → List Event → Run St → Run St
+joined n es r = record { after = r .after; taken = n + r .taken; events = es ++ r .events; why = r .why }
 
 -- stop where the next sample would pass V's end (2) or its records would not fit (1), else take it and go on
-unfoldable pub fedBy : {St : Type 0} → Machine St → St → List ℤ → ℕ → Fed St
+unfoldable pub fedBy : {St : Type 0} → Machine St → St → List ℤ → ℕ → Run St
 fedBy M st [] room = stopped st 0
 fedBy M st (x ∷ xs) room =
     elim (M .atEnd st x) [
@@ -42,24 +42,24 @@ fedBy M st (x ∷ xs) room =
 
 module _ {St : Type 0} (M : Machine St) where
   -- the machine after samples, and the events due with them; whether none of them passes V's end
-  abbrev pub walked : St → List ℤ → St
-  walked st [] = st
-  walked st (x ∷ xs) = walked (M .next st x) xs
+  abbrev pub walkedBy : St → List ℤ → St
+  walkedBy st [] = st
+  walkedBy st (x ∷ xs) = walkedBy (M .next st x) xs
 
   abbrev pub dueOver : St → List ℤ → List Event
   dueOver st [] = []
   dueOver st (x ∷ xs) = M .dueWith st x ++ dueOver (M .next st x) xs
 
-  abbrev pub withinEnd : St → List ℤ → Bool
-  withinEnd st [] = true
-  withinEnd st (x ∷ xs) = not (M .atEnd st x) && withinEnd (M .next st x) xs
+  abbrev pub withinEndBy : St → List ℤ → Bool
+  withinEndBy st [] = true
+  withinEndBy st (x ∷ xs) = not (M .atEnd st x) && withinEndBy (M .next st x) xs
 
   -- 01's rule of feed, of any machine: the greatest number of samples that keep V within its end and whose records fit; and why no more
   abbrev pub allowedBy : St → List ℤ → ℕ → ℕ → Bool
-  allowedBy st block room n = withinEnd st (take n block) && length (dueOver st (take n block)) ≤ᵇ room
+  allowedBy st block room n = withinEndBy st (take n block) && length (dueOver st (take n block)) ≤ᵇ room
 
   abbrev pub takenBy : St → List ℤ → ℕ → ℕ
   takenBy st block room = greatestTo (allowedBy st block room) (length block)
 
   abbrev pub whyBy : St → List ℤ → ℕ → ℕ
-  whyBy st block n = if n ≡ᵇ length block then 0 else if withinEnd st (take (n + 1) block) then 1 else 2
+  whyBy st block n = if n ≡ᵇ length block then 0 else if withinEndBy st (take (n + 1) block) then 1 else 2

@@ -10,17 +10,17 @@ use lib.IntN.{ℤ}
 use lib.Dec.{eqb·zero-suc, eqb·suc-suc}
 use borrow.Author.Tests.{ltb-true, ltb-false, leb-true, leb-false, le-leb, lt-leb}
 use Rattle.settings.specs.declared.Settings.{Settings}
-use Rattle.settings.specs.Notation.{_≤ᵇ_, _<ᵇ_, _≡ᵇ_, if_then_else_}
-use Rattle.settings.specs.NotationLaws.{and-left}
+use Rattle.numbers.specs.Notation.{_≤ᵇ_, _<ᵇ_, _≡ᵇ_, if_then_else_}
+use Rattle.numbers.specs.NotationLaws.{and-left}
 use Rattle.reading.specs.declared.Event.{Event}
 use Rattle.reading.specs.Values.{Samples, valueCount}
 use Rattle.reading.specs.Feed.{lastValue, completed, withinEnd, allowed, taken, why}
 use Rattle.reading_laws.specs.Recordings.{samples-append, samples-take, valueCount-grow}
 use Rattle.reading_laws.specs.Completed.{completed-none, completed-add}
 use Rattle.reading_laws.specs.Taken.{taken-allowed}
-use Rattle.greedy.specs.Greedy.{Machine, Fed, stopped, joined, fedBy}
+use Rattle.greedy.specs.Greedy.{Machine, Run, stopped, joined, fedBy}
 use Rattle.greedy.specs.GreedyLaws.{fedBy-ends, fedBy-full, fedBy-takes}
-use Rattle.greedy.specs.GreedyGreatest.{greatestTo-none, greatestTo-shift, leb-sub}
+use Rattle.greedy.specs.GreatestLaws.{greatestTo-none, greatestTo-shift, leb-sub}
 
 -- a recording that a logger can hold: of samples, and within V's end
 pub record Recording (s : Settings) (rec : List ℤ) : Type 0 where
@@ -83,23 +83,23 @@ module _ (s : Settings) (some : 0 < s .samples) (rec : List ℤ) (x : ℤ) (xs :
       ap (λ (z : Bool). if z then 0 else if withinEnd s rec (x ∷ xs) (suc n + 1) then 1 else 2) (eqb·suc-suc n (length xs))
       ∙ ap (λ (z : Bool). if n ≡ᵇ length xs then 0 else if z then 1 else 2) (ap (withinEnd s rec (x ∷ xs)) e ∙ within-later (n + 1))
 
--- one sample's step follows the recording, where `stateOf` is the machine that a recording leaves
-pub record Steps (s : Settings) {St : Type 0} (M : Machine St) (stateOf : List ℤ → St) : Type 0 where
-  pub atEnd-of : (rec : List ℤ) (x : ℤ) → M .atEnd (stateOf rec) x ≡ not (withinEnd s rec (x ∷ []) 1)
+-- one sample's step follows a recording that is within V's end, where `stateOf` is the machine that a recording leaves
+pub record StepsFollow (s : Settings) {St : Type 0} (M : Machine St) (stateOf : List ℤ → St) : Type 0 where
+  pub atEnd-of : (rec : List ℤ) (x : ℤ) → valueCount s rec ≤ lastValue → M .atEnd (stateOf rec) x ≡ not (withinEnd s rec (x ∷ []) 1)
   pub due-of : (rec : List ℤ) (x : ℤ) → M .dueWith (stateOf rec) x ≡ completed s rec (x ∷ []) 1
   pub next-of : (rec : List ℤ) (x : ℤ) → M .next (stateOf rec) x ≡ stateOf (rec ++ (x ∷ []))
 
-module _ (s : Settings) (some : 0 < s .samples) {St : Type 0} (M : Machine St) (stateOf : List ℤ → St) (steps : Steps s M stateOf) where
+module _ (s : Settings) (some : 0 < s .samples) {St : Type 0} (M : Machine St) (stateOf : List ℤ → St) (steps : StepsFollow s M stateOf) where
   -- the engineer's outcome
-  abbrev pub fedOf : List ℤ → List ℤ → ℕ → Fed St
+  abbrev pub fedOf : List ℤ → List ℤ → ℕ → Run St
   fedOf rec block room =
       let n = taken s rec block room in
-      record { after = stateOf (rec ++ take n block); count = n; records = completed s rec block n; reason = why s rec block n }
+      record { after = stateOf (rec ++ take n block); taken = n; events = completed s rec block n; why = why s rec block n }
 
   none-of : (rec block : List ℤ) (room y : ℕ) → taken s rec block room ≡ 0 → why s rec block 0 ≡ y → stopped (stateOf rec) y ≡ fedOf rec block room
   none-of rec block room y e w =
-      sym ((λ i. record { after = stateOf (rec ++ take (e i) block); count = e i; records = completed s rec block (e i); reason = why s rec block (e i) })
-      ∙ (λ i. record { after = stateOf (append-nil rec i); count = 0; records = completed-none s some rec block i; reason = w i }))
+      sym ((λ i. record { after = stateOf (rec ++ take (e i) block); taken = e i; events = completed s rec block (e i); why = why s rec block (e i) })
+      ∙ (λ i. record { after = stateOf (append-nil rec i); taken = 0; events = completed-none s some rec block i; why = w i }))
 
   later-of : (rec : List ℤ) (x : ℤ) (xs : List ℤ) (room later : ℕ) → taken s rec (x ∷ xs) room ≡ suc (taken s (rec ++ (x ∷ [])) xs later) →
       joined 1 (completed s rec (x ∷ []) 1) (fedOf (rec ++ (x ∷ [])) xs later) ≡ fedOf rec (x ∷ xs) room
@@ -108,16 +108,16 @@ module _ (s : Settings) (some : 0 < s .samples) {St : Type 0} (M : Machine St) (
       let c : 1 + n ≡ suc n = omega arith in
       (λ i. record {
         after = stateOf (sym (one-later s some rec x xs n) i);
-        count = c i;
-        records = sym (completed-cons s some rec x xs n) i;
-        reason = sym (why-later s some rec x xs n) i;
+        taken = c i;
+        events = sym (completed-cons s some rec x xs n) i;
+        why = sym (why-later s some rec x xs n) i;
       })
-      ∙ sym (λ i. record { after = stateOf (rec ++ take (e i) (x ∷ xs)); count = e i; records = completed s rec (x ∷ xs) (e i); reason = why s rec (x ∷ xs) (e i) })
+      ∙ sym (λ i. record { after = stateOf (rec ++ take (e i) (x ∷ xs)); taken = e i; events = completed s rec (x ∷ xs) (e i); why = why s rec (x ∷ xs) (e i) })
 
-  pub fedBy-follows : (block rec : List ℤ) (room : ℕ) → fedBy M (stateOf rec) block room ≡ fedOf rec block room
+  pub fedBy-follows : (block rec : List ℤ) (room : ℕ) → valueCount s rec ≤ lastValue → fedBy M (stateOf rec) block room ≡ fedOf rec block room
   unfolding fedBy
-  fedBy-follows [] rec room = none-of rec [] room 0 refl refl
-  fedBy-follows (x ∷ xs) rec room = go (withinEnd s rec (x ∷ []) 1) (room <ᵇ length first) refl refl (fedBy-follows xs (rec ++ (x ∷ [])) later)
+  fedBy-follows [] rec room within = none-of rec [] room 0 refl refl
+  fedBy-follows (x ∷ xs) rec room within = go (withinEnd s rec (x ∷ []) 1) (room <ᵇ length first) refl refl (fedBy-follows xs (rec ++ (x ∷ [])) later)
     where
       first : List Event
       first = completed s rec (x ∷ []) 1
@@ -125,20 +125,28 @@ module _ (s : Settings) (some : 0 < s .samples) {St : Type 0} (M : Machine St) (
       later : ℕ
       later = room - length first
 
+      end-is : (b : Bool) → withinEnd s rec (x ∷ []) 1 ≡ b → M .atEnd (stateOf rec) x ≡ not b
+      end-is b e = steps .atEnd-of rec x within ∙ ap not e
+
       due-is : M .dueWith (stateOf rec) x ≡ first
       due-is = steps .due-of rec x
 
-      go : (b f : Bool) → withinEnd s rec (x ∷ []) 1 ≡ b → (room <ᵇ length first) ≡ f → fedBy M (stateOf (rec ++ (x ∷ []))) xs later ≡ fedOf (rec ++ (x ∷ [])) xs later
+      full-is : (room <ᵇ length (M .dueWith (stateOf rec) x)) ≡ (room <ᵇ length first)
+      full-is = ap (λ (d : List Event). room <ᵇ length d) due-is
+
+      go : (b f : Bool) → withinEnd s rec (x ∷ []) 1 ≡ b → (room <ᵇ length first) ≡ f →
+          (valueCount s (rec ++ (x ∷ [])) ≤ lastValue → fedBy M (stateOf (rec ++ (x ∷ []))) xs later ≡ fedOf (rec ++ (x ∷ [])) xs later)
           → fedBy M (stateOf rec) (x ∷ xs) room ≡ fedOf rec (x ∷ xs) room
       go false f e q ih =
-          fedBy-ends M (stateOf rec) x xs room (steps .atEnd-of rec x ∙ ap not e) ∙ none-of rec (x ∷ xs) room 2 (first-ends s some rec x xs room e) (why-none s some rec x xs false e)
+          fedBy-ends M (stateOf rec) x xs room (end-is false e) ∙ none-of rec (x ∷ xs) room 2 (first-ends s some rec x xs room e) (why-none s some rec x xs false e)
       go true true e q ih =
-          fedBy-full M (stateOf rec) x xs room (steps .atEnd-of rec x ∙ ap not e) (ap (λ (d : List Event). room <ᵇ length d) due-is ∙ q)
+          fedBy-full M (stateOf rec) x xs room (end-is true e) (full-is ∙ q)
           ∙ none-of rec (x ∷ xs) room 1 (first-full s some rec x xs room (ltb-true room _ q)) (why-none s some rec x xs true e)
       go true false e q ih =
-          fedBy-takes M (stateOf rec) x xs room (steps .atEnd-of rec x ∙ ap not e) (ap (λ (d : List Event). room <ᵇ length d) due-is ∙ q)
+          fedBy-takes M (stateOf rec) x xs room (end-is true e) (full-is ∙ q)
           ∙ ((λ i. joined 1 (due-is i) (fedBy M (steps .next-of rec x i) xs (room - length (due-is i))))
-          ∙ (ap (joined 1 first) ih ∙ later-of rec x xs room later (first-taken s some rec x xs room e (ltb-false room _ q))))
+          ∙ (ap (joined 1 first) (ih (leb-true (valueCount s (rec ++ (x ∷ []))) lastValue e))
+          ∙ later-of rec x xs room later (first-taken s some rec x xs room e (ltb-false room _ q))))
 
 -- what is taken keeps the recording one that a logger can hold
 pub recording-fed : (s : Settings) → 0 < s .samples → (rec block : List ℤ) (room : ℕ) → Recording s rec → Samples block → Recording s (rec ++ take (taken s rec block room) block)

@@ -1,4 +1,4 @@
 pub mod Greedy
 pub mod GreedyLaws
-pub mod GreedyGreatest
+pub mod GreatestLaws
 pub mod GreedyFollows

@@ -8,11 +8,12 @@ use lib.ListN.{take, getD}
 use lib.IntN.{ℤ}
 use Rattle.octets.specs.Bytes.{Bytes}
 use Rattle.settings.specs.declared.Settings.{Settings}
-use Rattle.settings.specs.Notation.{_≡ᵇ_, if_then_else_}
+use Rattle.numbers.specs.Notation.{_≡ᵇ_, if_then_else_}
 use Rattle.settings.specs.Settings.{settingsOf, startRefusal}
 use Rattle.reading.specs.declared.Readings.{Readings}
 use Rattle.reading.specs.Values.{values}
 use Rattle.reading.specs.Records.{recordBytes, events}
+use Rattle.reading.specs.Feed.{Outcome}
 use Rattle.reading.specs.Engineer.{Call, Answer, emptyDesk, answers, deskAfter, WellFormed}
 use Rattle.reading.specs.Engineer.Call.{feed, look, save, restoreSave, restoreRefused}
 use Rattle.reading.specs.Engineer.Answer.{fed, looked, saved, restored}
@@ -22,28 +23,21 @@ pub data Started (L : Type 0) : Type 0 where
   yielded : L → Started L
   refused : ℕ → Started L
 
-pub record Fed (L : Type 0) : Type 0 where
-  pub after : L
-  pub taken : ℕ
-  pub written : ℕ
-  pub why : ℕ
-  pub bytes : List ℕ
-
 pub record Saved : Type 0 where
   pub number : ℕ
   pub bytes : List ℕ
 
-pub record Restored (L : Type 0) : Type 0 where
+pub record Restoration (L : Type 0) : Type 0 where
   pub after : L
   pub number : ℕ
 
 -- a logger's calls: start from settings bytes; feed with a block and a record buffer; look; save with an image buffer; restore from bytes
 pub record Calls (L : Type 0) : Type 0 where
   pub start : List ℕ → Started L
-  pub feed : L → List ℤ → List ℕ → Fed L
+  pub feed : L → List ℤ → List ℕ → Outcome L
   pub look : L → Readings
   pub save : L → List ℕ → Saved
-  pub restore : L → List ℕ → Restored L
+  pub restore : L → List ℕ → Restoration L
 
 -- who calls it keeps the logger that the last call left or yielded, the image of each accepted save, and the records written so far, with those at each save
 pub record Caller (L : Type 0) : Type 0 where
@@ -54,7 +48,7 @@ pub record Caller (L : Type 0) : Type 0 where
 
 module _ {L : Type 0} (C : Calls L) where
   abbrev pub loggerAnswer : Caller L → Call → Answer
-  loggerAnswer w (feed block lent) = let r = C .feed (w .logger) block lent in fed (r .taken) (r .written) (r .why) (r .bytes)
+  loggerAnswer w (feed block lent) = let r = C .feed (w .logger) block lent in fed (r .told) (r .bytes)
   loggerAnswer w look = looked (C .look (w .logger))
   loggerAnswer w (save lent) = let r = C .save (w .logger) lent in saved (r .number) (r .bytes)
   loggerAnswer w (restoreSave j) = restored (C .restore (w .logger) (getD (w .images) j []) .number)
@@ -65,7 +59,7 @@ module _ {L : Type 0} (C : Calls L) where
   abbrev pub callerAfter : Caller L → Call → Caller L
   callerAfter w (feed block lent) =
       let r = C .feed (w .logger) block lent in
-      record { logger = r .after; images = w .images; written = w .written ++ take (20 * r .written) (r .bytes); writtenAt = w .writtenAt }
+      record { logger = r .after; images = w .images; written = w .written ++ take (20 * r .told .written) (r .bytes); writtenAt = w .writtenAt }
   callerAfter w look = w
   callerAfter w (save lent) =
       let r = C .save (w .logger) lent in

@@ -11,9 +11,9 @@ use lib.IntN.{ℤ}
 use Rattle.settings.specs.declared.Settings.{Settings}
 use Rattle.settings.specs.declared.SettingsRead.{SettingsRead}
 use Rattle.settings.specs.declared.SettingsRead.the-variants as settings-read
-use Rattle.settings.specs.Notation.{_<ᵇ_, _≡ᵇ_, if_then_else_}
-use Rattle.settings.specs.Settings.{settingsOf, startRefusal, answerOf, settingsRead}
-use Rattle.settings.specs.SettingsLaws.{ValidSettings, read-accepted, refused-refusal}
+use Rattle.numbers.specs.Notation.{_<ᵇ_, _≡ᵇ_, if_then_else_}
+use Rattle.settings.specs.Settings.{settingsOf, startRefusal, answerOf, settingsRead, ValidSettings}
+use Rattle.settings.specs.SettingsLaws.{read-accepted, refused-refusal}
 use Rattle.reading.specs.Values.{Samples, valueCount, history, values}
 use Rattle.reading.specs.Records.{recordBytes, events}
 use Rattle.reading.specs.Image.{imageOf}
@@ -24,13 +24,16 @@ use Rattle.reading.specs.Engineer.Call.{feed, look, save, restoreSave, restoreR
 use Rattle.reading.specs.Engineer.Answer.{fed, looked, saved, restored}
 use Rattle.reading_laws.specs.Completed.{events-completed}
 use Rattle.records.specs.DueLaws.{length-recordBytes, recordBytes-append}
-use Rattle.image.specs.declared.State.{State}
+use Rattle.greedy.specs.GreedyFollows.{Recording, fedBy-follows, recording-fed}
+use Rattle.state.specs.declared.State.{State}
+use Rattle.state.specs.State.{fresh, stateOf}
+use Rattle.state.specs.Step.{machine}
+use Rattle.state.specs.StepFollows.{steps-of, fresh-is, readings-of, halves-none}
+use Rattle.state.specs.StepValid.{stateOf-valid, recording-none}
+use Rattle.state.specs.Calls.{outcomeOf, fedWith}
 use Rattle.image.specs.Image.{imageBytes, saveAnswer, savedBytes, restoredBy}
 use Rattle.image.specs.ImageLaws.{length-imageBytes, restoredBy-saved, restoredBy-refused}
-use Rattle.greedy.specs.GreedyFollows.{Recording, fedBy-follows, recording-fed}
-use Rattle.machine.specs.Step.{fresh, machine, stateOf}
-use Rattle.machine.specs.StepFollows.{steps-of, fresh-is, readings-of, image-of-state, halves-none}
-use Rattle.machine.specs.StepValid.{stateOf-valid, recording-none}
+use Rattle.image.specs.ImageFollows.{image-of-state}
 use Rattle.handover.specs.Claim.{Caller, loggerAnswer, callerAfter, loggerAnswers, callerAfterAll, freshCaller, Agree, Kept, Demand3}
 use Rattle.handover.specs.TheCalls.{numberOfAnswer, startedFrom, loggerCalls}
 
@@ -96,20 +99,21 @@ module _ (s : Settings) (valid : ValidSettings s) where
     copies = d .copies
 
     feed-step : (block : List ℤ) (lent : List ℕ) → Samples block → Step d (feed block lent)
+    unfolding fedWith
     feed-step block lent are =
-        let F = fedBy-follows s some machine (stateOf s) (steps-of s some) block rec (room lent) in
+        let F = fedBy-follows s some machine (stateOf s) (steps-of s some) block rec (room lent) (ok .recording-ok .within) in
         let n = taken s rec block (room lent) in
         let es = completed s rec block n in
         let grown : recordsOf rec ++ take (20 * length es) (over (recordBytes es) lent) ≡ recordsOf (rec ++ take n block) =
         ap (λ (bytes : List ℕ). recordsOf rec ++ bytes) (take-over (20 * length es) (recordBytes es) lent (length-recordBytes es))
         ∙ sym (ap recordBytes (events-completed s some rec block n) ∙ recordBytes-append (events s (values s rec)) es) in
         record {
-          same-answer = λ i. fed (F i .count) (length (F i .records)) (F i .reason) (over (recordBytes (F i .records)) lent);
+          same-answer = λ i. fed (outcomeOf lent (F i) .told) (outcomeOf lent (F i) .bytes);
           same-kept =
               (λ i. record {
                 logger = F i .after;
                 images = map (imageOf s) copies;
-                written = recordsOf rec ++ take (20 * length (F i .records)) (over (recordBytes (F i .records)) lent);
+                written = recordsOf rec ++ take (20 * length (F i .events)) (over (recordBytes (F i .events)) lent);
                 writtenAt = map recordsOf copies;
               })
               ∙ (λ i. record { logger = stateOf s (rec ++ take n block); images = map (imageOf s) copies; written = grown i; writtenAt = map recordsOf copies });

@@ -1,28 +1,43 @@
 -- What the two calls of a host answer, and what they leave in each lent buffer.
-use mathlib.Core.Path.{_≡_}
 use mathlib.Core.List.{List, _++_}
 use Prim.Native.Nat.{ℕ, zero, suc, _%_}
 use lib.ListN.{length}
 use Rattle.octets.specs.Bytes.{bytesOf}
+use Rattle.numbers.specs.Notation.{_≤ᵇ_, _≡ᵇ_, refuse_unless_then_}
 use Rattle.settings.specs.declared.SettingsRead.{SettingsRead}
 use Rattle.settings.specs.declared.SettingsRead.the-variants.{Read, Refused}
-use Rattle.settings.specs.Notation.{_≤ᵇ_, _≡ᵇ_, refuse_unless_then_}
 use Rattle.settings.specs.Settings.{settingsRead}
+use Rattle.reading.specs.declared.Told.{Told}
 use Rattle.reading.specs.Restore.{restoreRefusal}
+use Rattle.reading.specs.Feed.{Outcome}
 use Rattle.reading.specs.Engineer.{over}
 use Rattle.samples.specs.Samples.{samplesOf}
+use Rattle.state.specs.declared.State.{State}
+use Rattle.state.specs.State.{fresh}
+use Rattle.state.specs.Calls.{fedWith}
 use Rattle.image.specs.Image.{imageBytes, stateAt, saveAnswer, savedBytes}
-use Rattle.machine.specs.Step.{fresh}
-use Rattle.machine.specs.Calls.{Outcome, fedWith}
 
--- begin: start's refusals, then 7; else a fresh image
+-- a call's answer, and the buffers that it may write as it leaves them
 pub record Begun : Type 0 where
   pub number : ℕ
   pub image : List ℕ
 
+abbrev pub begunTo : ℕ → List ℕ → Begun
+begunTo number image = record { number = number; image = image }
+
+pub record Advanced : Type 0 where
+  pub number : ℕ
+  pub next : List ℕ
+  pub records : List ℕ
+  pub reply : List ℕ
+
+abbrev pub advancedTo : ℕ → List ℕ → List ℕ → List ℕ → Advanced
+advancedTo number next records reply = record { number = number; next = next; records = records; reply = reply }
+
+-- begin: start's refusals, then 7; else a fresh image
 abbrev pub begunBy : SettingsRead → List ℕ → Begun
-begunBy (Read s) lent = record { number = saveAnswer lent; image = savedBytes (fresh s) lent }
-begunBy (Refused n) lent = record { number = n; image = lent }
+begunBy (Read s) lent = begunTo (saveAnswer lent) (savedBytes (fresh s) lent)
+begunBy (Refused n) lent = begunTo n lent
 
 unfoldable pub begun : List ℕ → List ℕ → Begun
 begun b lent = begunBy (settingsRead b) lent
@@ -36,27 +51,14 @@ advanceRefusal image samples next reply =
     refuse 13 unless 24 ≤ᵇ length reply then 0
 
 -- taken, written and why, 8 bytes each, and the reply's further bytes as they were
-unfoldable pub replied : ℕ → ℕ → ℕ → List ℕ → List ℕ
-replied taken written why reply = over (bytesOf 8 taken ++ (bytesOf 8 written ++ bytesOf 8 why)) reply
+unfoldable pub replied : Told → List ℕ → List ℕ
+replied told reply = over (bytesOf 8 (told .taken) ++ (bytesOf 8 (told .written) ++ bytesOf 8 (told .why))) reply
 
--- its answer, and what it leaves in the three buffers that it may write: all as they were where it refuses
-pub record Advanced : Type 0 where
-  pub number : ℕ
-  pub next : List ℕ
-  pub records : List ℕ
-  pub reply : List ℕ
-
-abbrev pub advancedBy : ℕ → Outcome → List ℕ → List ℕ → List ℕ → Advanced
-advancedBy zero f next records reply = record { number = 0; next = over (imageBytes (f .after)) next; records = f .bytes; reply = replied (f .taken) (f .written) (f .why) reply }
-advancedBy (suc n) f next records reply = record { number = suc n; next = next; records = records; reply = reply }
+-- where it refuses, all buffers are as they were; else those of feed, the reply and save
+abbrev pub advancedBy : ℕ → Outcome State → List ℕ → List ℕ → List ℕ → Advanced
+advancedBy zero f next records reply = advancedTo 0 (over (imageBytes (f .after)) next) (f .bytes) (replied (f .told) reply)
+advancedBy (suc n) f next records reply = advancedTo (suc n) next records reply
 
 unfoldable pub advanced : List ℕ → List ℕ → List ℕ → List ℕ → List ℕ → Advanced
 advanced image samples next records reply =
     advancedBy (advanceRefusal image samples next reply) (fedWith (stateAt image) (samplesOf samples) records) next records reply
-
--- a call's answer, and the three buffers as it leaves them, are these
-pub record AdvancedIs (is : Advanced) (number : ℕ) (next records reply : List ℕ) : Type 0 where
-  pub number-is : number ≡ is .number
-  pub next-is : next ≡ is .next
-  pub records-are : records ≡ is .records
-  pub reply-is : reply ≡ is .reply

@@ -1,16 +1,24 @@
 // The two calls for a host program in C, on byte slices. Each returns 0 or 01's number of the refusal.
-use image::Answer;
-use image::State;
+use image::Acceptance;
+use logger::Fed;
 use logger::Logger;
+use reading::Told;
 use settings::Settings;
 use settings::SettingsRead;
 ghost use mathlib.Core.Path.{_≡_};
-ghost use Prim.Native.Nat.{_≤_};
+ghost use Prim.Native.Nat.{_≤_, min};
 ghost use lib.ListN.{length};
-ghost use Rattle.settings.specs.SettingsLaws.{ValidSettings};
-ghost use Rattle.host.specs.Host.{begun, replied, advanced, AdvancedIs};
+ghost use Rattle.settings.specs.Settings.{ValidSettings};
+ghost use Rattle.samples.specs.Samples.{samplesOf};
+ghost use Rattle.state.specs.State.{ValidState};
+ghost use Rattle.state.specs.Calls.{fedWith};
+ghost use Rattle.logger.specs.Logger.{fedTo};
+ghost use Rattle.host.specs.Host.{begunTo, begun, replied, advancedTo, advanced};
 
-const REPLY: usize = 24;
+const REPLY_LENGTH: usize = 24;
+
+// How many samples are decoded at a time.
+const CHUNK: usize = 1024;
 
 // Settings that start accepts.
 fn plain_settings() -> Settings
@@ -29,20 +37,71 @@ fn plain_settings() -> Settings
     }
 }
 
-// Taken, written and why into the first 24 bytes of a reply.
-fn put_reply(reply: &mut [u8], taken: usize, written: usize, why: u32)
-    requires { ⌜ 24 ≤ length (now reply) ⌝ }
-    ensures { λ _. ⌜ now (reply .exit) ≡ replied taken written why (now (reply .entry)) ⌝ }
+// The next chunk of the samples that are left.
+fn chunk_of(left: usize) -> usize
+    ensures { λ r. ⌜ r ≡ min left 1024 ⌝ }
 {
-    octets::put_u64(&mut reply[0..8], taken as u64);
-    octets::put_u64(&mut reply[8..16], written as u64);
-    octets::put_u64(&mut reply[16..24], why as u64);
+    if left < CHUNK { left } else { CHUNK }
+}
+
+// Feeds the samples that bytes are, chunk by chunk, each decoded on the stack, until one is not taken whole.
+fn feed_chunks(logger: Logger, bytes: &[u8], records: &mut [u8]) -> Fed
+    requires { ⌜ ValidState (logger .state) ⌝ }
+    ensures { λ r. ⌜ fedTo (r .logger .state) (r .told) (now (records .exit)) ≡ fedWith (logger .state) (samplesOf (now (bytes .entry))) (now (records .entry)) ⌝ }
+{
+    let count = bytes.len() / 2;
+    let mut samples = [0i16; CHUNK];
+    let mut held = logger;
+    let mut at: usize = 0;
+    let mut written: usize = 0;
+    while at < count {
+        let size = chunk_of(count - at);
+        let start = 2 * at;
+        let end = start + 2 * size;
+        let behind = 20 * written;
+        samples::decode(&bytes[start..end], &mut samples[..size]);
+        let fed = held.feed(&samples[..size], &mut records[behind..]);
+        let told = fed.told;
+        held = fed.logger;
+        written += told.written;
+        if 0 < told.why {
+            let taken = at + told.taken;
+            let why = told.why;
+            return Fed {
+                logger: held,
+                told: Told {
+                    taken,
+                    written,
+                    why,
+                },
+            };
+        }
+        at += size;
+    }
+    Fed {
+        logger: held,
+        told: Told {
+            taken: at,
+            written,
+            why: 0,
+        },
+    }
+}
+
+// Taken, written and why into the first 24 bytes of a reply.
+fn put_reply(reply: &mut [u8], told: Told)
+    requires { ⌜ 24 ≤ length (now reply) ⌝ }
+    ensures { λ _. ⌜ now (reply .exit) ≡ replied told (now (reply .entry)) ⌝ }
+{
+    octets::put_u64(&mut reply[0..8], told.taken as u64);
+    octets::put_u64(&mut reply[8..16], told.written as u64);
+    octets::put_u64(&mut reply[16..24], told.why as u64);
 }
 
 // Writes the image of a fresh logger.
 #[no_mangle]
 pub extern "C" fn pq_begin(settings: &[u8], image: &mut [u8]) -> u32
-    ensures { λ r. ⌜ (r ≡ begun (now (settings .entry)) (now (image .entry)) .number) × (now (image .exit) ≡ begun (now (settings .entry)) (now (image .entry)) .image) ⌝ }
+    ensures { λ r. ⌜ begunTo r (now (image .exit)) ≡ begun (now (settings .entry)) (now (image .entry)) ⌝ }
 {
     match Settings::from_bytes(settings) {
         SettingsRead::Read(read) => {
@@ -62,27 +121,29 @@ pub extern "C" fn pq_advance(
     records: &mut [u8],
     reply: &mut [u8],
 ) -> u32
-    ensures { λ r. ⌜ AdvancedIs (advanced (now (image .entry)) (now (samples .entry)) (now (next .entry)) (now (records .entry)) (now (reply .entry))) r (now (next .exit)) (now (records .exit)) (now (reply .exit)) ⌝ }
+    ensures { λ r. ⌜ advancedTo r (now (next .exit)) (now (records .exit)) (now (reply .exit))
+        ≡ advanced (now (image .entry)) (now (samples .entry)) (now (next .entry)) (now (records .entry)) (now (reply .entry)) ⌝ }
 {
     let spare = Logger::start(plain_settings());
     let resumed = spare.restore(image);
     let answer = resumed.answer;
     let logger = resumed.logger;
     match answer {
-        Answer::Refused(number) => number,
-        Answer::Accepted => {
+        Acceptance::Refused(number) => number,
+        Acceptance::Accepted => {
             if samples.len() % 2 != 0 {
                 return 12;
             }
-            if next.len() < State::IMAGE {
+            if next.len() < image::IMAGE_LENGTH {
                 return 7;
             }
-            if reply.len() < REPLY {
+            if reply.len() < REPLY_LENGTH {
                 return 13;
             }
-            let fed = logger.feed_bytes(samples, records);
+            let fed = feed_chunks(logger, samples, records);
             let after = fed.logger;
-            put_reply(reply, fed.taken, fed.written, fed.why);
+            let told = fed.told;
+            put_reply(reply, told);
             after.save(next)
         }
     }

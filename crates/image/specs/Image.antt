@@ -3,14 +3,15 @@ use mathlib.Core.List.{List, _++_}
 use Prim.Native.Nat.{ℕ, zero, suc}
 use lib.ListN.{length}
 use Rattle.octets.specs.Bytes.{words, numberAt}
-use Rattle.settings.specs.Notation.{_<ᵇ_, if_then_else_}
+use Rattle.numbers.specs.Notation.{_<ᵇ_, if_then_else_}
 use Rattle.settings.specs.Settings.{settingsBytes, settingsOf}
 use Rattle.reading.specs.Image.{table}
 use Rattle.reading.specs.Restore.{part, restoreRefusal}
 use Rattle.reading.specs.Engineer.{over}
+use Rattle.state.specs.declared.State.{State}
+use Rattle.state.specs.State.{stateWith}
 use Rattle.bodies.specs.Bodies.{gathererBody, valuesBody, detectorNumbers, gathererAt, windowAt, detectorAt}
-use Rattle.image.specs.declared.State.{State}
-use Rattle.image.specs.declared.Answer.the-variants as answer
+use Rattle.image.specs.declared.Acceptance.the-variants.{Accepted, Refused}
 use Rattle.image.specs.declared.Restored.{Restored}
 
 unfoldable pub imageBytes : State → List ℕ
@@ -20,12 +21,8 @@ imageBytes st =
     ++ (gathererBody (st .gatherer) ++ (valuesBody (st .detector .count) (st .window) ++ words (detectorNumbers (st .detector)))))
 
 unfoldable pub stateAt : List ℕ → State
-stateAt b = record {
-  settings = settingsOf (part 32 36 b);
-  gatherer = gathererAt (part 68 24 b);
-  detector = detectorAt (numberAt 92 4 b) (part 576 44 b);
-  window = windowAt (part 92 484 b);
-}
+stateAt b =
+    stateWith (settingsOf (part 32 36 b)) (gathererAt (part 68 24 b)) (detectorAt (numberAt 92 4 b) (part 576 44 b)) (windowAt (part 92 484 b))
 
 -- save: 7 for a shorter buffer, which stays; else the image, and the rest as it was
 unfoldable pub saveAnswer : List ℕ → ℕ
@@ -36,10 +33,10 @@ savedBytes st lent = if length lent <ᵇ 620 then lent else over (imageBytes st)
 
 -- restore: the lowest section's refusal, and the old state; else the state of the bytes
 abbrev pub refusedBy : ℕ → State → Restored
-refusedBy n old = record { answer = answer.Refused n; state = old }
+refusedBy n old = record { answer = Refused n; state = old }
 
 abbrev pub restoredFrom : ℕ → State → State → Restored
-restoredFrom zero old new = record { answer = answer.Accepted; state = new }
+restoredFrom zero old new = record { answer = Accepted; state = new }
 restoredFrom (suc n) old new = refusedBy (suc n) old
 
 unfoldable pub restoredBy : State → List ℕ → Restored

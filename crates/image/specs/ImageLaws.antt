@@ -1,31 +1,32 @@
 -- Both round trips: an allowed state's image is accepted and read back as that state; accepted bytes are the image of what is read from them, which is allowed.
 use mathlib.Core.Path.{_≡_, refl, sym, _∙_, ap, ap₂, subst}
 use mathlib.Core.Bool.{true, _&&_}
-use mathlib.Core.List.{List, [], _∷_, _++_}
+use mathlib.Core.List.{List}
 use Prim.Native.Nat.{ℕ, zero, suc, _+_, _≤_}
 use native.Mathlib.Omega.{arith}
 use lib.ListN.{length, drop, length-append, length-take, length-drop}
-use lib.Seq.{take-all}
 use borrow.Author.Tests.{eqb-true, eq-eqb}
 use Rattle.octets.specs.Bytes.{Bytes, words, numberAt}
-use Rattle.octets.specs.BytesLaws.{bytes-take, bytes-drop, bytes-append, words-bytes, length-words, numberAt-lt, words-wordsAt}
+use Rattle.octets.specs.BytesLaws.{bytes-take, bytes-drop, length-words, numberAt-lt}
 use Rattle.octets.specs.Parts.{numberAt-part}
+use Rattle.numbers.specs.Notation.{_≡ᵇ_}
+use Rattle.numbers.specs.NotationLaws.{and-true, and-left, and-right, refuse-passes, refuse-none}
 use Rattle.settings.specs.declared.Settings.{Settings}
-use Rattle.settings.specs.Notation.{_≡ᵇ_}
-use Rattle.settings.specs.NotationLaws.{and-true, and-left, and-right, refuse-passes, refuse-none}
-use Rattle.settings.specs.Settings.{numbersOf, settingsBytes, settingsOf, settingsRefusal, startRefusal}
-use Rattle.settings.specs.SettingsLaws.{ValidSettings, settingsOf-settingsBytes, valid-refusal, refusal-valid}
+use Rattle.settings.specs.declared.SettingsRead.the-variants.{Read}
+use Rattle.settings.specs.Settings.{settingsBytes, settingsOf, startRefusal, answerOf, settingsRead}
+use Rattle.settings.specs.SettingsLaws.{settingsOf-settingsBytes, settingsRead-settingsBytes, read-accepted, settingsBytes-settingsRead}
 use Rattle.reading.specs.Image.{table}
 use Rattle.reading.specs.Restore.{part, sameBytes, gathererGood, valuesGood, eventsGood, restoreRefusal}
+use Rattle.state.specs.declared.State.{State}
+use Rattle.state.specs.State.{stateWith, ValidState}
 use Rattle.bodies.specs.Bodies.{gathererBody, valuesBody, detectorNumbers, gathererAt, windowAt, detectorAt}
-use Rattle.bodies.specs.BodiesLaws.{gathererBody-bytes, valuesBody-bytes, length-valuesBody, length-detectorBody}
+use Rattle.bodies.specs.BodiesFacts.{same-equal}
+use Rattle.bodies.specs.BodiesLaws.{length-valuesBody, length-detectorBody}
 use Rattle.bodies.specs.BodiesLaws.{GathererBack, ValuesBack, DetectorBack, gatherer-back, values-back, detector-back}
 use Rattle.bodies.specs.BodiesLaws.{GathererAgain, ValuesAgain, DetectorAgain, gatherer-good, values-good, detector-good}
-use Rattle.image.specs.declared.State.{State}
-use Rattle.image.specs.declared.Answer.the-variants.{Accepted}
+use Rattle.image.specs.declared.Acceptance.the-variants.{Accepted}
 use Rattle.image.specs.Image.{imageBytes, stateAt, refusedBy, restoredFrom, restoredBy}
-use Rattle.image.specs.ImageValid.{ValidState}
-use Rattle.image.specs.ImageSections.{Sections, sections-are, sections-join}
+use Rattle.image.specs.SectionsLaws.{Sections, sections-are, sections-join}
 
 -- bytes with the sections of a state
 abbrev SectionsOf : State → List ℕ → Type 0
@@ -33,47 +34,28 @@ SectionsOf st b =
     let values = valuesBody (st .detector .count) (st .window) in
     Sections b table (settingsBytes (st .settings)) (gathererBody (st .gatherer)) values (words (detectorNumbers (st .detector)))
 
--- an image is 620 bytes
-module _ (st : State) where
-  pub imageBytes-bytes : Bytes (imageBytes st)
+-- an image is 620 bytes, in five sections
+module _ (st : State) (size : length (st .window) ≡ 120) where
+  pub length-imageBytes : length (imageBytes st) ≡ 620
   unfolding imageBytes
-  imageBytes-bytes =
+  length-imageBytes =
       let events = words (detectorNumbers (st .detector)) in
-      let values = valuesBody (st .detector .count) (st .window) in
-      let gatherer = gathererBody (st .gatherer) in
-      let settings = settingsBytes (st .settings) in
-      let contents : Bytes table = omega arith in
-      bytes-append table (settings ++ (gatherer ++ (values ++ events))) contents
-      (bytes-append settings (gatherer ++ (values ++ events)) (words-bytes (numbersOf (st .settings)))
-      (bytes-append gatherer (values ++ events) (gathererBody-bytes (st .gatherer))
-      (bytes-append values events (valuesBody-bytes (st .detector .count) (st .window)) (words-bytes (detectorNumbers (st .detector))))))
+      omega (arith, length-append (words (st .window)) events, length-words (st .window), length-detectorBody (st .detector))
 
-  module _ (size : length (st .window) ≡ 120) where
-    pub length-imageBytes : length (imageBytes st) ≡ 620
-    unfolding imageBytes
-    length-imageBytes =
-        let events = words (detectorNumbers (st .detector)) in
-        omega (arith, length-append (words (st .window)) events, length-words (st .window), length-detectorBody (st .detector))
+  image-sections : SectionsOf st (imageBytes st)
+  unfolding imageBytes
+  image-sections =
+      sections-are (imageBytes st) table (settingsBytes (st .settings)) (gathererBody (st .gatherer)) _ _ refl refl refl refl
+      (length-valuesBody (st .detector .count) (st .window) size) (length-detectorBody (st .detector))
 
-    image-sections : SectionsOf st (imageBytes st)
-    unfolding imageBytes
-    image-sections =
-        sections-are (imageBytes st) table (settingsBytes (st .settings)) (gathererBody (st .gatherer)) _ _ refl refl refl refl
-        (length-valuesBody (st .detector .count) (st .window) size) (length-detectorBody (st .detector))
-
--- bytes that are accepted, and bytes that are refused
-module _ (old : State) (b : List ℕ) where
-  pub restoredBy-accepted : restoreRefusal b ≡ 0 → restoredBy old b ≡ record { answer = Accepted; state = stateAt b }
-  unfolding restoredBy
-  restoredBy-accepted e = ap (λ (n : ℕ). restoredFrom n old (stateAt b)) e
-
-  pub restoredBy-refused : (restoreRefusal b ≡ 0 → ⊥) → restoredBy old b ≡ refusedBy (restoreRefusal b) old
-  unfolding restoredBy
-  restoredBy-refused refused = go (restoreRefusal b) refused
-    where
-      go : (n : ℕ) → (n ≡ 0 → ⊥) → restoredFrom n old (stateAt b) ≡ refusedBy n old
-      go zero h = absurd (h refl)
-      go (suc n) h = refl
+-- bytes that are refused
+pub restoredBy-refused : (old : State) (b : List ℕ) → (restoreRefusal b ≡ 0 → ⊥) → restoredBy old b ≡ refusedBy (restoreRefusal b) old
+unfolding restoredBy
+restoredBy-refused old b refused = go (restoreRefusal b) refused
+  where
+    go : (n : ℕ) → (n ≡ 0 → ⊥) → restoredFrom n old (stateAt b) ≡ refusedBy n old
+    go zero h = absurd (h refl)
+    go (suc n) h = refl
 
 -- state → bytes → state
 module _ (st : State) (valid : ValidState st) where
@@ -100,10 +82,9 @@ module _ (st : State) (valid : ValidState st) where
   count-is = sym (numberAt-part 92 484 0 4 saved (omega arith)) ∙ (ap (numberAt 0 4) (sections .values-part) ∙ values-are .count-read)
 
   start-none : startRefusal (part 32 36 saved) ≡ 0
-  unfolding startRefusal
   start-none =
-      refuse-passes 1 _ (eq-eqb (length (part 32 36 saved)) 36 (ap length (sections .settings-part)))
-      ∙ (ap settingsRefusal settings-is ∙ valid-refusal (st .settings) (valid .settings-valid))
+      ap startRefusal (sections .settings-part)
+      ∙ read-accepted (settingsBytes (st .settings)) (st .settings) (settingsRead-settingsBytes (st .settings) (valid .settings-valid)) .none
 
   pub imageBytes-accepted : restoreRefusal (imageBytes st) ≡ 0
   unfolding restoreRefusal
@@ -123,18 +104,13 @@ module _ (st : State) (valid : ValidState st) where
       let window : windowAt (part 92 484 saved) ≡ st .window = ap windowAt (sections .values-part) ∙ values-are .window-read in
       let detector : detectorAt (numberAt 92 4 saved) (part 576 44 saved) ≡ st .detector =
       ap₂ detectorAt count-is (sections .events-part) ∙ detector-is .read in
-      λ i. record { settings = settings-is i; gatherer = gatherer i; detector = detector i; window = window i }
+      λ i. stateWith (settings-is i) (gatherer i) (detector i) (window i)
 
   pub restoredBy-saved : (old : State) → restoredBy old (imageBytes st) ≡ record { answer = Accepted; state = st }
-  restoredBy-saved old = restoredBy-accepted old saved imageBytes-accepted ∙ (λ i. record { answer = Accepted; state = stateAt-imageBytes i })
+  unfolding restoredBy
+  restoredBy-saved old = λ i. restoredFrom (imageBytes-accepted i) old (stateAt-imageBytes i)
 
 -- what accepted bytes have passed
-same-bytes : (xs ys : List ℕ) → sameBytes xs ys ≡ true → xs ≡ ys
-same-bytes [] [] e = refl
-same-bytes [] (y ∷ ys) e = let z : _≡_ {A = ℕ} 0 1 = cc in absurd (omega arith)
-same-bytes (x ∷ xs) [] e = let z : _≡_ {A = ℕ} 0 1 = cc in absurd (omega arith)
-same-bytes (x ∷ xs) (y ∷ ys) e = ap₂ _∷_ (eqb-true x y (and-left (x ≡ᵇ y) (sameBytes xs ys) e)) (same-bytes xs ys (and-right (x ≡ᵇ y) (sameBytes xs ys) e))
-
 record Passed (b : List ℕ) (s : Settings) (v : ℕ) : Type 0 where
   size : length b ≡ 620
   contents : part 0 32 b ≡ table
@@ -158,7 +134,7 @@ passed b e =
     let late = and-right gatherer (values && events) (r11 .0) in
     record {
       size = eqb-true (length b) 620 (r8 .0);
-      contents = same-bytes (part 0 32 b) table (r9 .0);
+      contents = same-equal (part 0 32 b) table (r9 .0);
       start = eqb-true (startRefusal (part 32 36 b)) 0 (r10 .0);
       gatherer = and-left gatherer (values && events) (r11 .0);
       values = and-left values events late;
@@ -182,14 +158,9 @@ module _ (b : List ℕ) (are : Bytes b) (accepted : restoreRefusal b ≡ 0) wher
   part-size : (offset n : ℕ) → offset + n ≤ 620 → length (part offset n b) ≡ n
   part-size offset n h = simp (length-take, length-drop) (omega (arith, ok .size))
 
-  settings-valid : ValidSettings s
-  unfolding startRefusal
-  settings-valid = refusal-valid s (refuse-none 1 (length (part 32 36 b) ≡ᵇ 36) _ (omega arith) (ok .start) .1)
-
-  settings-same : settingsBytes s ≡ part 32 36 b
-  settings-same =
-      let l = part-size 32 36 (omega arith) in
-      words-wordsAt (part 32 36 b) (part-bytes 32 36) 0 9 (omega arith) ∙ take-all 36 (part 32 36 b) (omega arith)
+  settings-read : settingsRead (part 32 36 b) ≡ Read s
+  unfolding settingsRead
+  settings-read = ap (λ (n : ℕ). answerOf n s) (ok .start)
 
   gatherer-again : GathererAgain s v (part 68 24 b)
   gatherer-again = gatherer-good s v (part 68 24 b) (part-bytes 68 24) (part-size 68 24 (omega arith)) (ok .gatherer)
@@ -205,7 +176,7 @@ module _ (b : List ℕ) (are : Bytes b) (accepted : restoreRefusal b ≡ 0) wher
   pub stateAt-valid : ValidState (stateAt b)
   unfolding stateAt
   stateAt-valid = record {
-    settings-valid = settings-valid;
+    settings-valid = read-accepted (part 32 36 b) s settings-read .valid;
     gatherer-valid = gatherer-again .valid;
     detector-valid = detector-again .valid;
     window-valid = values-again .valid;
@@ -219,7 +190,7 @@ module _ (b : List ℕ) (are : Bytes b) (accepted : restoreRefusal b ≡ 0) wher
       sections-join b table (settingsBytes s) (gathererBody (gathererAt (part 68 24 b))) _ _ (ok .size)
       (record {
         contents-part = ok .contents;
-        settings-part = sym settings-same;
+        settings-part = sym (settingsBytes-settingsRead (part 32 36 b) (part-bytes 32 36) s settings-read);
         gatherer-part = sym (gatherer-again .written);
         values-part = sym (values-again .written);
         events-part = sym (detector-again .written);

@@ -1,5 +1,4 @@
 pub mod Image
-pub mod ImageValid
-pub mod ImageSections
+pub mod SectionsLaws
 pub mod ImageLaws
-pub mod ImageRecording
+pub mod ImageFollows

@@ -2,100 +2,89 @@
 use bodies::DetectorRead;
 use bodies::GathererRead;
 use bodies::Verdict;
-use detection::Detector;
-use rms::Gatherer;
 use settings::Settings;
 use settings::SettingsRead;
+use state::State;
 ghost use mathlib.Core.Path.{_≡_};
 ghost use Rattle.image.specs.Image.{saveAnswer, savedBytes, refusedBy, restoredBy};
 
-// What a logger keeps.
-pub struct State {
-    pub settings: Settings,
-    pub gatherer: Gatherer,
-    pub detector: Detector,
-    pub window: [u32; 120],
-}
+pub const IMAGE_LENGTH: usize = 620;
 
 // Restore's answer: accepted, or 01's number of the refusal.
-pub enum Answer {
+pub enum Acceptance {
     Accepted,
     Refused(u32),
 }
 
 // The answer, beside the state that it leaves.
 pub struct Restored {
-    pub answer: Answer,
+    pub answer: Acceptance,
     pub state: State,
 }
 
-impl State {
-    pub const IMAGE: usize = 620;
-
-    // Writes the image into the first 620 bytes. 0, or 7 where the buffer is shorter, and then it stays as it was.
-    pub fn save(self, image: &mut [u8]) -> u32
-        ensures { λ r. ⌜ (r ≡ saveAnswer (now (image .entry))) × (now (image .exit) ≡ savedBytes self (now (image .entry))) ⌝ }
-    {
-        if image.len() < State::IMAGE {
-            return 7;
-        }
-        let settings = self.settings;
-        let gatherer = self.gatherer;
-        let detector = self.detector;
-        let window = self.window;
-        bodies::put_table(&mut image[0..32]);
-        settings.write(&mut image[32..68]);
-        bodies::put_gatherer(&mut image[68..92], gatherer);
-        bodies::put_values(&mut image[92..576], detector.count, &window);
-        bodies::put_detector(&mut image[576..620], detector);
-        0
+// Writes the image into the first 620 bytes. 0, or 7 where the buffer is shorter, and then it stays as it was.
+pub fn save(state: State, image: &mut [u8]) -> u32
+    ensures { λ r. ⌜ (r ≡ saveAnswer (now (image .entry))) × (now (image .exit) ≡ savedBytes state (now (image .entry))) ⌝ }
+{
+    if image.len() < IMAGE_LENGTH {
+        return 7;
     }
+    let settings = state.settings;
+    let gatherer = state.gatherer;
+    let detector = state.detector;
+    let window = state.window;
+    bodies::put_table(&mut image[0..32]);
+    settings.write(&mut image[32..68]);
+    bodies::put_gatherer(&mut image[68..92], gatherer);
+    bodies::put_values(&mut image[92..576], detector.count, &window);
+    bodies::put_detector(&mut image[576..620], detector);
+    0
+}
 
-    fn refused(self, number: u32) -> Restored
-        ensures { λ r. ⌜ r ≡ refusedBy number self ⌝ }
-    {
-        Restored {
-            answer: Answer::Refused(number),
-            state: self,
-        }
+fn refused(old: State, number: u32) -> Restored
+    ensures { λ r. ⌜ r ≡ refusedBy number old ⌝ }
+{
+    Restored {
+        answer: Acceptance::Refused(number),
+        state: old,
     }
+}
 
-    // Each section is taken only if the one before it was good; on refusal the old state remains.
-    pub fn restore(self, bytes: &[u8]) -> Restored
-        ensures { λ r. ⌜ r ≡ restoredBy self (now (bytes .entry)) ⌝ }
-    {
-        if bytes.len() != State::IMAGE {
-            return self.refused(8);
-        }
-        let Verdict::Good = bodies::read_table(&bytes[0..32]) else {
-            return self.refused(9);
-        };
-        let SettingsRead::Read(settings) = Settings::from_bytes(&bytes[32..68]) else {
-            return self.refused(10);
-        };
-        let values = octets::get_u32(bytes, 92) as u64;
-        let GathererRead::Read(gatherer) = bodies::read_gatherer(&bytes[68..92], settings, values)
-        else {
-            return self.refused(11);
-        };
-        let read = bodies::read_window(&bytes[92..576], settings);
-        let verdict = read.verdict;
-        let window = read.window;
-        let Verdict::Good = verdict else {
-            return self.refused(11);
-        };
-        let DetectorRead::Read(detector) = bodies::read_detector(&bytes[576..620], settings, values)
-        else {
-            return self.refused(11);
-        };
-        Restored {
-            answer: Answer::Accepted,
-            state: State {
-                settings,
-                gatherer,
-                detector,
-                window,
-            },
-        }
+// Each section is taken only if the one before it was good; on refusal the old state remains.
+pub fn restore(old: State, bytes: &[u8]) -> Restored
+    ensures { λ r. ⌜ r ≡ restoredBy old (now (bytes .entry)) ⌝ }
+{
+    if bytes.len() != IMAGE_LENGTH {
+        return refused(old, 8);
+    }
+    let Verdict::Good = bodies::read_table(&bytes[0..32]) else {
+        return refused(old, 9);
+    };
+    let SettingsRead::Read(settings) = Settings::from_bytes(&bytes[32..68]) else {
+        return refused(old, 10);
+    };
+    let values = octets::get_u32(bytes, 92) as u64;
+    let GathererRead::Read(gatherer) = bodies::read_gatherer(&bytes[68..92], settings, values)
+    else {
+        return refused(old, 11);
+    };
+    let read = bodies::read_window(&bytes[92..576], settings);
+    let verdict = read.verdict;
+    let window = read.window;
+    let Verdict::Good = verdict else {
+        return refused(old, 11);
+    };
+    let DetectorRead::Read(detector) = bodies::read_detector(&bytes[576..620], settings, values)
+    else {
+        return refused(old, 11);
+    };
+    Restored {
+        answer: Acceptance::Accepted,
+        state: State {
+            settings,
+            gatherer,
+            detector,
+            window,
+        },
     }
 }

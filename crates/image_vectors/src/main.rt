@@ -1,12 +1,12 @@
 // Restores each image of a file of vectors, and prints 01's number for it, 0 where it is accepted. The file has a good image, then changes to it of 14 bytes each
 // (outside/image_vectors.py).
 use detection::Detector;
-use image::Answer;
-use image::State;
+use image::Acceptance;
 use libc::STDIN_FILENO;
 use libc::STDOUT_FILENO;
 use rms::Gatherer;
 use settings::Settings;
+use state::State;
 ghost use mathlib.Core.Path.{_≡_};
 ghost use Prim.Native.Nat.{_≤_};
 ghost use lib.ListN.{length};
@@ -32,15 +32,15 @@ fn blank() -> State {
     }
 }
 
-fn number_of(answer: Answer) -> u64 {
+fn number_of(answer: Acceptance) -> u64 {
     match answer {
-        Answer::Accepted => 0,
-        Answer::Refused(number) => number as u64,
+        Acceptance::Accepted => 0,
+        Acceptance::Refused(number) => number as u64,
     }
 }
 
-fn refusal(image: &[u8]) -> u64 {
-    let restored = blank().restore(image);
+fn refusal(bytes: &[u8]) -> u64 {
+    let restored = image::restore(blank(), bytes);
     let answer = restored.answer;
     number_of(answer)
 }

@@ -1,1 +1,1 @@
-pub mod Restored
+pub mod Logger

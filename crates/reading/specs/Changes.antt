@@ -4,7 +4,7 @@ use mathlib.Core.List.{List, [], _∷_}
 use Prim.Native.Nat.{ℕ, suc, _+_, _-_, _*_, max}
 use lib.ListN.{length, take}
 use Rattle.settings.specs.declared.Settings.{Settings}
-use Rattle.settings.specs.Notation.{_≤ᵇ_, _<ᵇ_, _≡ᵇ_, if_then_else_, all}
+use Rattle.numbers.specs.Notation.{_≤ᵇ_, _<ᵇ_, _≡ᵇ_, if_then_else_, all}
 use Rattle.settings.specs.Settings.{windowLength}
 use Rattle.reading.specs.declared.Kind.the-variants.{Dip, Swell}
 use Rattle.reading.specs.declared.Event.{Event}

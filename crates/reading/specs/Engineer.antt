@@ -6,9 +6,10 @@ use lib.ListN.{length, take, drop, getD}
 use lib.IntN.{ℤ}
 use Rattle.octets.specs.Bytes.{Bytes}
 use Rattle.settings.specs.declared.Settings.{Settings}
-use Rattle.settings.specs.Notation.{_<ᵇ_, if_then_else_}
+use Rattle.numbers.specs.Notation.{_<ᵇ_, if_then_else_}
 use Rattle.settings.specs.Settings.{windowLength}
 use Rattle.reading.specs.declared.Kind.the-variants.{Dip, Swell, Interruption}
+use Rattle.reading.specs.declared.Told.{Told}
 use Rattle.reading.specs.declared.Readings.{Readings}
 use Rattle.reading.specs.Values.{Samples, values}
 use Rattle.reading.specs.Thresholds.{standsSince}
@@ -27,9 +28,9 @@ pub data Call : Type 0 where
   restoreSave : ℕ → Call
   restoreRefused : List ℕ → Call
 
--- the answers, each with the lent bytes as the call leaves them: of feed taken, written and why; of save and restore 0, or the refusal
+-- the answers, each with the lent bytes as the call leaves them: of feed what it tells; of save and restore 0, or the refusal
 pub data Answer : Type 0 where
-  fed : ℕ → ℕ → ℕ → List ℕ → Answer
+  fed : Told → List ℕ → Answer
   looked : Readings → Answer
   saved : ℕ → List ℕ → Answer
   restored : ℕ → Answer
@@ -68,7 +69,7 @@ abbrev pub answer : Settings → Desk → Call → Answer
 answer s d (feed block lent) =
     let n = taken s (d .recording) block (room lent) in
     let written = completed s (d .recording) block n in
-    fed n (length written) (why s (d .recording) block n) (over (recordBytes written) lent)
+    fed (record { taken = n; written = length written; why = why s (d .recording) block n }) (over (recordBytes written) lent)
 answer s d look = looked (readings s (values s (d .recording)))
 answer s d (save lent) = if length lent <ᵇ 620 then saved 7 lent else saved 0 (over (imageOf s (d .recording)) lent)
 answer s d (restoreSave j) = restored 0

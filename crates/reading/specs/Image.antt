@@ -6,7 +6,7 @@ use lib.ListN.{length, take, drop, replicate}
 use lib.IntN.{ℤ}
 use Rattle.octets.specs.Bytes.{bytesOf, words}
 use Rattle.settings.specs.declared.Settings.{Settings}
-use Rattle.settings.specs.Notation.{_<ᵇ_, _≡ᵇ_, if_then_else_}
+use Rattle.numbers.specs.Notation.{_<ᵇ_, _≡ᵇ_, if_then_else_}
 use Rattle.settings.specs.Settings.{windowLength, settingsBytes}
 use Rattle.reading.specs.declared.Kind.{Kind}
 use Rattle.reading.specs.declared.Kind.the-variants.{Dip, Swell, Interruption}

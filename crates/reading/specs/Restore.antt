@@ -5,7 +5,7 @@ use Prim.Native.Nat.{ℕ, _+_, _*_, _^_, min}
 use lib.ListN.{length, take, drop}
 use Rattle.octets.specs.Bytes.{numberAt, wordsAt}
 use Rattle.settings.specs.declared.Settings.{Settings}
-use Rattle.settings.specs.Notation.{_≤ᵇ_, _<ᵇ_, _≡ᵇ_, if_then_else_, all, refuse_unless_then_}
+use Rattle.numbers.specs.Notation.{_≤ᵇ_, _<ᵇ_, _≡ᵇ_, if_then_else_, all, refuse_unless_then_}
 use Rattle.settings.specs.Settings.{windowLength, settingsOf, startRefusal}
 use Rattle.reading.specs.Image.{table}
 

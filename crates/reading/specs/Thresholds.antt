@@ -4,7 +4,7 @@ use mathlib.Core.List.{List, [], _∷_}
 use Prim.Native.Nat.{ℕ, suc, _+_, _-_, _*_, min, max}
 use lib.ListN.{length}
 use Rattle.settings.specs.declared.Settings.{Settings}
-use Rattle.settings.specs.Notation.{_≤ᵇ_, _<ᵇ_, _≡ᵇ_, if_then_else_}
+use Rattle.numbers.specs.Notation.{_≤ᵇ_, _<ᵇ_, _≡ᵇ_, if_then_else_}
 use Rattle.reading.specs.declared.Kind.{Kind}
 use Rattle.reading.specs.declared.Kind.the-variants.{Dip, Swell, Interruption}
 use Rattle.reading.specs.declared.Event.{Event}

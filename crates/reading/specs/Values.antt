@@ -5,7 +5,7 @@ use Prim.Native.Nat.{ℕ, zero, suc, _+_, _-_, _*_, _/_, _^_, _<_}
 use lib.ListN.{length, take, drop}
 use lib.IntN.{ℤ, pos, negsuc, natAbs}
 use Rattle.settings.specs.declared.Settings.{Settings}
-use Rattle.settings.specs.Notation.{_≤ᵇ_, _≡ᵇ_, if_then_else_}
+use Rattle.numbers.specs.Notation.{_≤ᵇ_, _≡ᵇ_, if_then_else_}
 
 -- a sample is a signed 16-bit count: −32768 (`negsuc 32767`) to 32767
 abbrev pub Sample : ℤ → Type 0

@@ -27,6 +27,13 @@ impl Event {
     pub const CHANGE: u8 = 4;
 }
 
+// What feed tells: the samples taken, the records written, and why no more: 0 all taken, 2 the next sample would pass V's end, 1 its records would not fit.
+pub struct Told {
+    pub taken: usize,
+    pub written: usize,
+    pub why: u32,
+}
+
 // What look tells: the count of values, the newest one and the sum of the window, 0 where there is none; the phase's number; the events that stand.
 pub struct Readings {
     pub count: u64,

@@ -6,7 +6,7 @@ use native.Mathlib.Omega.{arith}
 use native.Mathlib.Nat.{mul-le-mul, mul-add, add-mul, mul-comm, le-antisymm}
 use native.Mathlib.Decide.{decLe}
 use borrow.Author.Tests.{eqb-true, eqb-false, leb-true, leb-false}
-use Rattle.settings.specs.Notation.{_≤ᵇ_, _≡ᵇ_, if_then_else_}
+use Rattle.numbers.specs.Notation.{_≤ᵇ_, _≡ᵇ_, if_then_else_}
 use Rattle.reading.specs.Values.{rootBy, root}
 
 -- r is the greatest number whose square is at most n

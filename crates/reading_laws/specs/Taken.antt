@@ -9,8 +9,8 @@ use lib.ListN.{length}
 use lib.IntN.{ℤ}
 use borrow.Author.Tests.{le-leb}
 use Rattle.settings.specs.declared.Settings.{Settings}
-use Rattle.settings.specs.Notation.{_≤ᵇ_}
-use Rattle.settings.specs.NotationLaws.{and-true}
+use Rattle.numbers.specs.Notation.{_≤ᵇ_}
+use Rattle.numbers.specs.NotationLaws.{and-true}
 use Rattle.reading.specs.Values.{valueCount}
 use Rattle.reading.specs.Feed.{lastValue, allowed, greatestTo, taken}
 use Rattle.reading_laws.specs.Completed.{completed-none}

@@ -1,9 +1,10 @@
 -- The events due at one value, as a list; the event that a record's bytes are; and bytes written into a buffer.
 use mathlib.Core.List.{List, _++_}
-use Prim.Native.Nat.{ℕ, _+_}
-use lib.ListN.{length, take, drop, getD}
+use Prim.Native.Nat.{ℕ}
+use lib.ListN.{take, drop, getD}
 use Rattle.octets.specs.Bytes.{numberAt}
 use Rattle.reading.specs.declared.Event.{Event}
+use Rattle.reading.specs.Engineer.{over}
 use Rattle.threshold.specs.Standing.{listOf}
 use Rattle.records.specs.declared.Due.{Due}
 
@@ -13,6 +14,6 @@ eventsOf d = listOf (d .dip) ++ (listOf (d .swell) ++ (listOf (d .interruption) 
 abbrev pub eventOf : List ℕ → Event
 eventOf b = record { kind = getD b 0 0; start = numberAt 4 4 b; duration = numberAt 8 4 b; first = numberAt 12 4 b; second = numberAt 16 4 b }
 
--- a buffer with bytes from a place on, and every other byte as it was
+-- a buffer with bytes from a place on, its other bytes unchanged
 abbrev pub placed : ℕ → List ℕ → List ℕ → List ℕ
-placed at bytes buffer = take at buffer ++ (bytes ++ drop (at + length bytes) buffer)
+placed at bytes buffer = take at buffer ++ over bytes (drop at buffer)

@@ -1,19 +1,17 @@
--- Records to bytes and back, both ways, and records placed one behind the other.
+-- Records to bytes and back, both ways, and records written one behind the other.
 use mathlib.Core.Path.{_≡_, refl, sym, _∙_, ap}
-use mathlib.Core.Bool.{Bool, true, false}
 use mathlib.Core.List.{List, [], _∷_, _++_, append-assoc, append-nil}
-use Prim.Native.Nat.{ℕ, _+_, _*_, _^_, _≤_, _<_}
+use Prim.Native.Nat.{ℕ, _+_, _-_, _*_, _^_, _≤_, _<_}
 use native.Mathlib.Omega.{arith}
-use lib.ListN.{length, take, drop, getD, length-append, length-take, length-drop, take-append-drop}
-use lib.Seq.{take-all, drop-drop, drop-cons}
-use borrow.Rule.Slice.PartMut.{putMid}
+use lib.ListN.{length, take, drop, getD, length-append, length-drop}
+use lib.Seq.{take-all, take-at, drop-at, drop-drop, drop-cons}
 use Rattle.octets.specs.Bytes.{Bytes, words, wordsAt}
 use Rattle.octets.specs.BytesLaws.{numberAt-bytesOf, words-wordsAt}
-use Rattle.octets.specs.Parts.{put-next}
-use Rattle.settings.specs.Notation.{if_then_else_}
 use Rattle.reading.specs.declared.Event.{Event}
 use Rattle.reading.specs.Records.{recordBytes}
+use Rattle.reading.specs.Engineer.{over}
 use Rattle.threshold.specs.declared.Ended.{Ended}
+use Rattle.threshold.specs.declared.Ended.the-variants.{Nothing, Over}
 use Rattle.threshold.specs.Standing.{listOf}
 use Rattle.records.specs.declared.Due.{Due}
 use Rattle.records.specs.Due.{eventsOf, eventOf, placed}
@@ -56,59 +54,29 @@ recordBytes-eventOf b are l z₁ z₂ z₃ =
     ∙ ap (λ (t : List ℕ). getD b 1 0 ∷ t) (drop-cons b 2 0 (omega arith) ∙ ap (λ (t : List ℕ). getD b 2 0 ∷ t) (drop-cons b 3 0 (omega arith)))) in
     (λ i. getD b 0 0 ∷ sym z₁ i ∷ sym z₂ i ∷ sym z₃ i ∷ numbers i) ∙ sym head
 
--- the events due at one value
-pub length-listOf : (e : Ended) → length (listOf e) ≡ if e .over then 1 else 0
-length-listOf e = go (e .over)
-  where
-    go : (over : Bool) → length (if over then e .event ∷ [] else []) ≡ if over then 1 else 0
-    go true = refl
-    go false = refl
-
+-- the events due at one value, at most one of each kind
 pub length-eventsOf : (d : Due)
     → length (eventsOf d) ≡ length (listOf (d .dip)) + (length (listOf (d .swell)) + (length (listOf (d .interruption)) + length (listOf (d .change))))
 length-eventsOf d = simp length-append
 
+listOf-one : (e : Ended) → length (listOf e) ≤ 1
+listOf-one Nothing = omega arith
+listOf-one (Over e) = omega arith
+
 pub eventsOf-most : (d : Due) → length (eventsOf d) ≤ 4
-eventsOf-most d = omega (arith, length-eventsOf d, one (d .dip), one (d .swell), one (d .interruption), one (d .change))
-  where
-    go : (e : Ended) (over : Bool) → length (if over then e .event ∷ [] else []) ≤ 1
-    go e true = omega arith
-    go e false = omega arith
+eventsOf-most d = omega (arith, length-eventsOf d, listOf-one (d .dip), listOf-one (d .swell), listOf-one (d .interruption), listOf-one (d .change))
 
-    one : (e : Ended) → length (listOf e) ≤ 1
-    one e = go e (e .over)
-
--- bytes placed in a buffer
-pub placed-none : (at : ℕ) (buffer : List ℕ) → buffer ≡ placed at [] buffer
-placed-none at buffer = let e : at ≡ at + 0 = omega arith in sym (take-append-drop at buffer) ∙ ap (λ (k : ℕ). take at buffer ++ drop k buffer) e
-
-pub length-placed : (at : ℕ) (bytes buffer : List ℕ) → at + length bytes ≤ length buffer → length (placed at bytes buffer) ≡ length buffer
-length-placed at bytes buffer h = simp (length-append, length-take, length-drop) (omega arith)
-
--- a lent part that comes back with as many bytes
-pub putMid-placed : (at k : ℕ) (bytes buffer : List ℕ) → k ≡ length bytes → putMid at k buffer bytes ≡ placed at bytes buffer
-putMid-placed at k bytes buffer e = rw (e, drop-drop (length bytes) at buffer)
-
-pub placed-twice : (p : ℕ) (a b out : List ℕ) → p + length a + length b ≤ length out → (q : ℕ) → q ≡ p + length a
-    → placed q b (placed p a out) ≡ placed p (a ++ b) out
-placed-twice p a b out fits q e =
-    let front = take p out ++ a in
-    let rest = drop (p + length a) out in
-    let long : length front ≡ q = simp (length-append, length-take) (omega arith) in
-    let more : p + length a + length b ≡ p + length (a ++ b) = omega (arith, length-append a b) in
-    let behind : drop (length b) rest ≡ drop (p + length (a ++ b)) out = drop-drop (length b) (p + length a) out ∙ ap (λ (k : ℕ). drop k out) more in
-    sym (putMid-placed q (length b) b (placed p a out) refl)
-    ∙ (put-next q (length b) (placed p a out) front rest b (sym (append-assoc (take p out) a rest)) long
-    ∙ (ap (λ (r : List ℕ). (front ++ b) ++ r) behind ∙ simp append-assoc))
-
--- records placed behind records
-pub placed-records : (at q : ℕ) (es fs : List Event) (b b₁ b₂ : List ℕ) → at + 20 * length (es ++ fs) ≤ length b → q ≡ at + 20 * length es
-    → b₁ ≡ placed at (recordBytes es) b → b₂ ≡ placed q (recordBytes fs) b₁ → b₂ ≡ placed at (recordBytes (es ++ fs)) b
-placed-records at q es fs b b₁ b₂ fits e h₁ h₂ =
-    let l = length-append es fs in
-    let n₁ = length-recordBytes es in
-    let n₂ = length-recordBytes fs in
-    h₂
-    ∙ (ap (placed q (recordBytes fs)) h₁
-    ∙ (placed-twice at (recordBytes es) (recordBytes fs) b (omega arith) q (omega arith)
-    ∙ ap (λ (bs : List ℕ). placed at bs b) (sym (recordBytes-append es fs))))
+-- records behind records
+module _ (k : ℕ) (es fs : List Event) (lent out : List ℕ) (k-is : k ≡ 20 * length es) (out-is : out ≡ over (recordBytes es) lent) where
+  pub placed-records : placed k (recordBytes fs) out ≡ over (recordBytes (es ++ fs)) lent
+  placed-records =
+      let front = recordBytes es in
+      let new = recordBytes fs in
+      let rest = drop (length front) lent in
+      let long : length front ≡ k = omega (arith, length-recordBytes es) in
+      let further : drop (length new) rest ≡ drop (length (front ++ new)) lent =
+      drop-drop (length new) (length front) lent ∙ ap (λ (n : ℕ). drop n lent) (sym (length-append front new)) in
+      (λ i. take k (out-is i) ++ over new (drop k (out-is i)))
+      ∙ ((λ i. take-at front rest k long i ++ over new (drop-at front rest k long i))
+      ∙ (sym (append-assoc front new (drop (length new) rest))
+      ∙ ((λ i. (front ++ new) ++ further i) ∙ ap (λ (b : List ℕ). over b lent) (sym (recordBytes-append es fs)))))

@@ -5,8 +5,8 @@ ghost use mathlib.Core.Path.{_≡_};
 ghost use mathlib.Core.List.{[], _∷_};
 ghost use Prim.Native.Nat.{_+_, _*_, _≤_};
 ghost use lib.ListN.{length};
-ghost use Rattle.settings.specs.Notation.{if_then_else_};
 ghost use Rattle.reading.specs.Records.{recordBytes};
+ghost use Rattle.reading.specs.Engineer.{over};
 ghost use Rattle.threshold.specs.Standing.{listOf};
 ghost use Rattle.records.specs.Due.{eventsOf, eventOf, placed};
 
@@ -44,36 +44,46 @@ pub fn get_record(bytes: &[u8]) -> Event
     }
 }
 
-// Writes the record of an event that is over, if there is one, from a place of a buffer on; the place after it.
-fn put_ended(buffer: &mut [u8], at: usize, ended: Ended) -> usize
+// Writes the record of an event that is over, if one is, from a place of a buffer on; the place after it.
+fn put_ended(ended: Ended, buffer: &mut [u8], at: usize) -> usize
     requires { ⌜ at + 20 * length (listOf ended) ≤ length (now buffer) ⌝ }
     ensures { λ r. ⌜ (r ≡ at + 20 * length (listOf ended)) × (now (buffer .exit) ≡ placed at (recordBytes (listOf ended)) (now (buffer .entry))) ⌝ }
 {
-    if ended.over {
-        let event = ended.event;
-        let end = at + 20;
-        put_record(&mut buffer[at..end], event);
-        return end;
+    match ended {
+        Ended::Nothing => at,
+        Ended::Over(event) => {
+            let end = at + 20;
+            put_record(&mut buffer[at..end], event);
+            end
+        }
     }
-    at
+}
+
+fn count_of(ended: Ended) -> usize
+    ensures { λ r. ⌜ (r ≡ length (listOf ended)) × (r ≤ 1) ⌝ }
+{
+    match ended {
+        Ended::Nothing => 0,
+        Ended::Over(_) => 1,
+    }
 }
 
 impl Due {
-    // How many there are, four at most.
+    // How many there are.
     pub fn count(self) -> usize
-        ensures { λ r. ⌜ (r ≡ length (eventsOf self)) × (r ≤ 4) ⌝ }
+        ensures { λ r. ⌜ r ≡ length (eventsOf self) ⌝ }
     {
         let dip = self.dip;
         let swell = self.swell;
         let interruption = self.interruption;
         let change = self.change;
-        one(dip.over) + one(swell.over) + one(interruption.over) + one(change.over)
+        count_of(dip) + count_of(swell) + count_of(interruption) + count_of(change)
     }
 
-    // Writes their records, by kind, from a place of a buffer on. Every other byte stays. At most values there are none.
-    pub fn put(self, buffer: &mut [u8], at: usize)
-        requires { ⌜ at + 20 * length (eventsOf self) ≤ length (now buffer) ⌝ }
-        ensures { λ _. ⌜ now (buffer .exit) ≡ placed at (recordBytes (eventsOf self)) (now (buffer .entry)) ⌝ }
+    // Writes their records, by kind, at the front of a buffer. At most values there are none.
+    pub fn put(self, buffer: &mut [u8])
+        requires { ⌜ 20 * length (eventsOf self) ≤ length (now buffer) ⌝ }
+        ensures { λ _. ⌜ now (buffer .exit) ≡ over (recordBytes (eventsOf self)) (now (buffer .entry)) ⌝ }
     {
         if self.count() == 0 {
             return;
@@ -82,15 +92,9 @@ impl Due {
         let swell = self.swell;
         let interruption = self.interruption;
         let change = self.change;
-        let after_dip = put_ended(buffer, at, dip);
-        let after_swell = put_ended(buffer, after_dip, swell);
-        let after_interruption = put_ended(buffer, after_swell, interruption);
-        put_ended(buffer, after_interruption, change);
+        let after_dip = put_ended(dip, buffer, 0);
+        let after_swell = put_ended(swell, buffer, after_dip);
+        let after_interruption = put_ended(interruption, buffer, after_swell);
+        put_ended(change, buffer, after_interruption);
     }
-}
-
-fn one(over: bool) -> usize
-    ensures { λ r. ⌜ (r ≡ (if over then 1 else 0)) × (r ≤ 1) ⌝ }
-{
-    if over { 1 } else { 0 }
 }

@@ -1,5 +1,5 @@
--- The square of a signed 16-bit number in 32 bits, and one sample more in a sum of squares, or two of those that bytes are.
-use mathlib.Core.Path.{_≡_, refl, ap}
+-- The square of a signed 16-bit number in 32 bits, and one sample more in a sum of squares.
+use mathlib.Core.Path.{_≡_, refl}
 use mathlib.Core.List.{List}
 use Prim.Native.Nat.{ℕ, _+_, _*_, _^_, _≤_, _<_}
 use native.Mathlib.Nat.{mul-le-mul}
@@ -10,10 +10,8 @@ use mir.Val.{SFits}
 use lib.Dec.{T}
 use lib.Signed.{mag, nonNeg}
 use lib.IntN.{ℤ, pos, negsuc, natAbs, _*ℤ_}
-use lib.ListN.{length, take, drop, getD}
+use lib.ListN.{length, take, getD}
 use lib.Seq.{take-suc}
-use Rattle.samples.specs.Samples.{sampleOf, samplesOf}
-use Rattle.samples.specs.SamplesLaws.{samples-from}
 use Rattle.reading.specs.Values.{square, squares}
 use Rattle.reading_laws.specs.Recordings.{squares-append}
 
@@ -45,16 +43,3 @@ product-fits {z} h = record { sfits = omega (arith, product-mag z, square-le h) 
 
 pub squares-more : (xs : List ℤ) (i : ℕ) → i < length xs → squares (take (i + 1) xs) ≡ squares (take i xs) + square (getD xs i (pos 0))
 squares-more xs i h = rw (add-one, take-suc xs i (pos 0), squares-append) (omega arith)
-
--- of samples in bytes: the first of those from byte i on, and the first two from byte 4 × k on
-pub squares-from : (b : List ℕ) (i : ℕ) → i + 1 < length b
-    → squares (samplesOf (drop i b)) ≡ square (sampleOf (getD b i 0) (getD b (i + 1) 0)) + squares (samplesOf (drop (i + 2) b))
-squares-from b i h = ap squares (samples-from b i h)
-
-pub squares-pair : (b : List ℕ) (k : ℕ) → 4 * k + 3 < length b
-    → squares (samplesOf (drop (4 * k) b))
-    ≡ square (sampleOf (getD b (4 * k) 0) (getD b (4 * k + 1) 0)) + square (sampleOf (getD b (4 * k + 2) 0) (getD b (4 * k + 2 + 1) 0))
-    + squares (samplesOf (drop (4 * (k + 1)) b))
-squares-pair b k h =
-    let e : 4 * k + 2 + 2 ≡ 4 * (k + 1) = omega arith in
-    omega (arith, squares-from b (4 * k) (omega arith), squares-from b (4 * k + 2) (omega arith), ap (λ (j : ℕ). squares (samplesOf (drop j b))) e)

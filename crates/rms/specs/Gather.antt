@@ -1,63 +1,54 @@
--- The gatherer's steps, and the gatherer that a recording leaves. 01: count and sum of the half in progress, sum of the last whole half.
-use mathlib.Core.Bool.{true, false, _&&_}
-use mathlib.Core.List.{List, [], _∷_, _++_}
+-- The gatherer's steps, where a half-cycle ends, and the gatherer that a recording leaves. 01: count and sum of the half in progress, sum of the last whole half.
+use mathlib.Core.Path.{_≡_}
+use mathlib.Core.Bool.{Bool, true, false}
+use mathlib.Core.List.{List, [], _∷_}
 use Prim.Native.Nat.{ℕ, _+_, _-_, _*_, _%_, _^_, _≤_, _<_}
 use lib.ListN.{length, drop}
 use lib.IntN.{ℤ}
+use Rattle.numbers.specs.Notation.{_<ᵇ_, if_then_else_}
 use Rattle.settings.specs.declared.Settings.{Settings}
-use Rattle.settings.specs.Notation.{_<ᵇ_, _≡ᵇ_, if_then_else_}
-use Rattle.reading.specs.Values.{square, squares, rms, halves}
+use Rattle.reading.specs.Values.{squares, rms, halves}
 use Rattle.reading.specs.Image.{lastSum}
+use Rattle.rms.specs.declared.Part.{Part}
 use Rattle.rms.specs.declared.Gatherer.{Gatherer}
 use Rattle.rms.specs.declared.Share.{Share}
 use Rattle.rms.specs.declared.Gathered.{Gathered}
 
+-- the part of a half-cycle that samples are
+abbrev pub partOf : List ℤ → Part
+partOf xs = record { count = length xs; squares = squares xs }
+
 abbrev pub noSample : Gatherer
 noSample = record { count = 0; sum = 0; last = 0; whole = false }
 
--- n samples more with the sum of squares e, which complete no half-cycle; which complete one
-abbrev pub withPart : Gatherer → ℕ → ℕ → Gatherer
-withPart g n e = record { count = g .count + n; sum = g .sum + e; last = g .last; whole = g .whole }
+-- a part more, which leaves the half-cycle in progress; one that ends it
+abbrev pub withPart : Gatherer → Part → Gatherer
+withPart g p = record { count = g .count + p .count; sum = g .sum + p .squares; last = g .last; whole = g .whole }
 
-abbrev pub withHalf : Gatherer → ℕ → Gatherer
-withHalf g e = record { count = 0; sum = 0; last = g .sum + e; whole = true }
+abbrev pub withHalf : Gatherer → Part → Gatherer
+withHalf g p = record { count = 0; sum = 0; last = g .sum + p .squares; whole = true }
 
--- either, with m samples in a half-cycle; and the value that comes out, if one does
-unfoldable pub gathered : ℕ → Gatherer → ℕ → ℕ → Gatherer
-gathered m g n e = if g .count + n ≡ᵇ m then withHalf g e else withPart g n e
-
-unfoldable pub out : ℕ → Gatherer → ℕ → ℕ → List ℕ
-out m g n e = if g .count + n ≡ᵇ m && g .whole then rms m (g .last) (g .sum + e) ∷ [] else []
-
--- one sample more, and whether it completes the half-cycle; what this asks, so that nothing wraps
-abbrev pub gatheredSample : ℕ → Gatherer → ℤ → Gathered
-gatheredSample m g x = record { gatherer = gathered m g 1 (square x); completed = g .count + 1 ≡ᵇ m }
-
-abbrev pub Ready : ℕ → Gatherer → Type 0
-Ready m g = (g .count < m) × (m ≤ 256) × (g .sum ≤ g .count * 2 ^ 30)
-
--- a part of a block within the half-cycle
-abbrev pub gatheredPart : ℕ → Gatherer → List ℤ → Gatherer
-gatheredPart m g xs = gathered m g (length xs) (squares xs)
-
-abbrev pub outOfPart : ℕ → Gatherer → List ℤ → List ℕ
-outOfPart m g xs = out m g (length xs) (squares xs)
-
--- sample by sample; the values that come out, newest first
-abbrev pub gatheredAll : ℕ → Gatherer → List ℤ → Gatherer
-gatheredAll m g [] = g
-gatheredAll m g (x ∷ xs) = gatheredAll m (gathered m g 1 (square x)) xs
-
-abbrev pub outOfAll : ℕ → Gatherer → List ℤ → List ℕ
-outOfAll m g [] = []
-outOfAll m g (x ∷ xs) = outOfAll m (gathered m g 1 (square x)) xs ++ out m g 1 (square x)
-
--- how many samples of a block belong to the half-cycle in progress, and whether they complete it
-abbrev pub shareOf : Gatherer → ℕ → ℕ → Share
-shareOf g m left =
-    if left <ᵇ m - g .count
-    then record { count = left; completes = false }
+-- the cut, with m samples in a half-cycle: how many of the samples to come belong to the half-cycle in progress, and whether the last of them ends it. What
+-- else is said of a half-cycle's end rests on the laws of CutLaws
+unfoldable pub cut : ℕ → Gatherer → List ℤ → Share
+cut m g xs =
+    if length xs <ᵇ m - g .count
+    then record { count = length xs; completes = false }
     else record { count = m - g .count; completes = true }
+
+-- whether the next sample ends it
+abbrev pub endsWith : ℕ → Gatherer → ℤ → Bool
+endsWith m g x = cut m g (x ∷ []) .completes
+
+-- the value of the half-cycle that a part ends, and the one before it; none with the first half-cycle
+unfoldable pub valueFrom : ℕ → Gatherer → Part → List ℕ
+valueFrom m g p = if g .whole then rms m (g .last) (g .sum + p .squares) ∷ [] else []
+
+-- one sample more, and whether it ends the half-cycle
+abbrev pub gathered : ℕ → Gatherer → ℤ → Gathered
+gathered m g x =
+    let p = partOf (x ∷ []) in
+    record { gatherer = if endsWith m g x then withHalf g p else withPart g p; completed = endsWith m g x }
 
 -- the gatherer read from a recording
 abbrev pub gathererOf : Settings → List ℤ → Gatherer
@@ -67,3 +58,15 @@ gathererOf s rec = record {
   last = lastSum s rec (halves s rec);
   whole = 0 <ᵇ halves s rec;
 }
+
+-- what refusal 11 allows of a gatherer, with m samples in a half-cycle
+pub record ValidGatherer (m : ℕ) (g : Gatherer) : Type 0 where
+  pub count-lt : g .count < m
+  pub sum-le : g .sum ≤ g .count * 2 ^ 30
+  pub last-le : g .last ≤ m * 2 ^ 30
+  pub last-none : g .whole ≡ false → g .last ≡ 0
+
+-- a part that the half-cycle in progress has room for, of 16-bit samples
+pub record PartFits (m : ℕ) (g : Gatherer) (p : Part) : Type 0 where
+  pub count-le : g .count + p .count ≤ m
+  pub squares-le : p .squares ≤ p .count * 2 ^ 30

@@ -1,4 +1,4 @@
 pub mod Gather
+pub mod CutLaws
 pub mod GatherLaws
 pub mod GatherFollows
-pub mod GatherSamples

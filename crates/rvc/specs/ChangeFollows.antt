@@ -9,14 +9,32 @@ use lib.ListN.{length, take, drop, getD, length-drop}
 use lib.Seq.{drop-cons}
 use borrow.Author.Tests.{ltb-true, ltb-false, le-leb, lt-leb}
 use Rattle.settings.specs.declared.Settings.{Settings}
-use Rattle.settings.specs.Notation.{_≤ᵇ_, _<ᵇ_, if_then_else_}
+use Rattle.numbers.specs.Notation.{_≤ᵇ_, _<ᵇ_, if_then_else_}
 use Rattle.settings.specs.Settings.{windowLength}
 use Rattle.settings.specs.SettingsLaws.{windowLength-some}
+use Rattle.reading.specs.declared.Event.{Event}
 use Rattle.reading.specs.Values.{since, upTo}
 use Rattle.reading.specs.Changes.{windowSum, gap, firstStand, sumBefore, farthest, greatestDifference, changeEvent}
-use Rattle.window.specs.Window.{windowOf}
+use Rattle.threshold.specs.declared.Ended.the-variants.{Nothing, Over}
+use Rattle.threshold.specs.Standing.{listOf}
+use Rattle.window.specs.Window.{leaving, windowOf}
+use Rattle.window.specs.WindowLaws.{leaving-full}
 use Rattle.window.specs.WindowFollows.{windowSum-windowOf, oldest-is}
-use Rattle.rvc.specs.Phase.{begun, grown, closing, changeOf, standsFirst}
+use Rattle.rvc.specs.declared.Joining.{Joining}
+use Rattle.rvc.specs.Phase.{changeFrom, grown, closing, changeOf, standsFirst}
+
+-- the newest value of a history, as it joins the window
+abbrev pub joiningNewest : Settings → ℕ → List ℕ → Joining
+joiningNewest s r older =
+    let n = windowLength s in
+    record {
+      number = suc (length older);
+      value = r;
+      leaving = leaving n (length older) (windowOf n older);
+      before = windowSum s (windowOf n older);
+      after = windowSum s (windowOf n (r ∷ older));
+      stands = standsFirst s (r ∷ older);
+    }
 
 -- the history before its n newest values, and its values from k on
 upTo-settled : (n : ℕ) (hist : List ℕ) → n ≤ length hist → upTo (length hist - n) hist ≡ drop n hist
@@ -73,9 +91,10 @@ module _ (s : Settings) (k r : ℕ) (older : List ℕ) (late : windowLength s < 
       (if 0 <ᵇ firstStand s k older then firstStand s k older else if standsFirst s (r ∷ older) then suc (length older) else 0)
   stand-grows = let e : (k ≤ᵇ suc (length older)) ≡ true = le-leb k (suc (length older)) (omega arith) in rw e
 
-  pub change-grows : grown (windowLength s) (suc (length older)) (getD (windowOf (windowLength s) older) 0 0) (standsFirst s (r ∷ older)) (changeOf s k older)
-      ≡ changeOf s k (r ∷ older)
-  change-grows = sym (λ j. record { start = k; sum = sum-stays j; difference = difference-grows j; stand = stand-grows j })
+  pub change-grows : grown (windowLength s) (joiningNewest s r older) (changeOf s k older) ≡ changeOf s k (r ∷ older)
+  change-grows =
+      rw (leaving-full (windowLength s) (length older) (windowOf (windowLength s) older) (omega arith))
+      (sym (λ j. record { start = k; sum = sum-stays j; difference = difference-grows j; stand = stand-grows j }))
 
 -- none has stood from k on before value k
 stand-none : (s : Settings) (k : ℕ) (hist : List ℕ) → length hist < k → firstStand s k hist ≡ 0
@@ -87,8 +106,7 @@ stand-none s k (r ∷ older) h =
 
 -- a change begins with a value
 module _ (s : Settings) (r : ℕ) (older : List ℕ) (full : windowLength s ≤ length older) where
-  pub change-begins : begun (suc (length older)) (windowSum s (windowOf (windowLength s) older)) (standsFirst s (r ∷ older))
-      ≡ changeOf s (suc (length older)) (r ∷ older)
+  pub change-begins : changeFrom (joiningNewest s r older) ≡ changeOf s (suc (length older)) (r ∷ older)
   change-begins = λ j. record { start = i; sum = sum-is j; difference = difference-is j; stand = stand-is j }
     where
       i : ℕ
@@ -146,6 +164,15 @@ stand-settled s k (suc n) (r ∷ older) =
     go false false f e = refl
 
 -- a change ends
-pub change-ends : (s : Settings) (k : ℕ) (hist : List ℕ) → windowLength s ≤ length hist →
-    closing (windowLength s) (length hist) (windowSum s (windowOf (windowLength s) hist)) (changeOf s k hist) ≡ changeEvent s k hist
-change-ends s k hist full = rw (windowSum-windowOf s hist full, upTo-settled (windowLength s) hist full, stand-settled s k (windowLength s) hist)
+pub change-ends : (s : Settings) (k r : ℕ) (older : List ℕ) → windowLength s ≤ suc (length older) →
+    listOf (closing (windowLength s) (joiningNewest s r older) (changeOf s k (r ∷ older))) ≡ changeEvent s k (r ∷ older)
+change-ends s k r older full =
+    rw (windowSum-windowOf s hist full, upTo-settled (windowLength s) hist full, stand-settled s k (windowLength s) hist)
+    (listed (0 <ᵇ firstStand s k hist && firstStand s k hist ≤ᵇ length hist - windowLength s) _)
+  where
+    hist : List ℕ
+    hist = r ∷ older
+
+    listed : (b : Bool) (e : Event) → listOf (if b then Nothing else Over e) ≡ (if b then [] else e ∷ [])
+    listed true e = refl
+    listed false e = refl

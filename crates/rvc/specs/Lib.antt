@@ -1,5 +1,5 @@
 pub mod Phase
+pub mod PhaseLaws
 pub mod ChangeFollows
 pub mod PhaseFollows
 pub mod PhaseValid
-pub mod PhaseStep

@@ -1,68 +1,70 @@
 -- One value's step of the phase, and what a history leaves of it.
 use mathlib.Core.Path.{_≡_}
 use mathlib.Core.Bool.{Bool, false, _&&_, _||_}
-use mathlib.Core.List.{List, [], _∷_}
-use Prim.Native.Nat.{ℕ, suc, _+_, _-_, _*_, _≤_, _<_, max}
-use lib.ListN.{length, getD}
+use mathlib.Core.List.{List}
+use Prim.Native.Nat.{ℕ, suc, _-_, _*_, _≤_, _<_, max}
+use lib.ListN.{length, take}
+use Rattle.numbers.specs.Notation.{_≤ᵇ_, _<ᵇ_, _≡ᵇ_, if_then_else_}
 use Rattle.settings.specs.declared.Settings.{Settings}
 use Rattle.settings.specs.declared.Scaled.{Scaled}
-use Rattle.settings.specs.Notation.{_≤ᵇ_, _<ᵇ_, _≡ᵇ_, if_then_else_}
 use Rattle.settings.specs.Settings.{windowLength}
 use Rattle.reading.specs.declared.Kind.the-variants.{Dip, Swell}
-use Rattle.reading.specs.declared.Event.{Event}
 use Rattle.reading.specs.Thresholds.{standsSince}
-use Rattle.reading.specs.Changes.{sum, windowSum, gap, calm, Signal, signal, sumBefore, greatestDifference, firstStand}
+use Rattle.reading.specs.Changes.{sum, gap, calm, Signal, signal, sumBefore, greatestDifference, firstStand}
 use Rattle.reading.specs.Changes.Signal.{filling, unsettled, steady, changing}
-use Rattle.threshold.specs.Standing.{listOf}
-use Rattle.window.specs.Window.{pushed}
+use Rattle.threshold.specs.declared.Ended.{Ended}
+use Rattle.threshold.specs.declared.Ended.the-variants.{Nothing, Over}
+use Rattle.window.specs.Window.{pushed, leaving}
 use Rattle.window.specs.Range.{calmWith}
 use Rattle.rvc.specs.declared.Change.{Change}
 use Rattle.rvc.specs.declared.Phase.{Phase}
 use Rattle.rvc.specs.declared.Phase.the-variants.{Filling, Unsettled, Steady, Changing}
+use Rattle.rvc.specs.declared.Joining.{Joining}
 use Rattle.rvc.specs.declared.Moved.{Moved}
 
--- a change that begins at value i, with the window's sum a before it; `stands`: a dip or a swell first stands at i
-abbrev pub begun : ℕ → ℕ → Bool → Change
-begun i a stands = record { start = i; sum = a; difference = 0; stand = if stands then i else 0 }
+-- a change that begins with the value j
+abbrev pub changeFrom : Joining → Change
+changeFrom j = record { start = j .number; sum = j .before; difference = 0; stand = if j .stands then j .number else 0 }
 
--- one in progress, with value i, at which x leaves the window of n
-abbrev pub grown : ℕ → ℕ → ℕ → Bool → Change → Change
-grown n i x stands c = record {
+-- one in progress, with the value j that joins the window of n
+abbrev pub grown : ℕ → Joining → Change → Change
+grown n j c = record {
   start = c .start;
   sum = c .sum;
-  difference = if i - c .start <ᵇ n then c .difference else max (gap (n * x) (c .sum)) (c .difference);
-  stand = if 0 <ᵇ c .stand then c .stand else if stands then i else 0;
+  difference = if j .number - c .start <ᵇ n then c .difference else max (gap (n * j .leaving) (c .sum)) (c .difference);
+  stand = if 0 <ᵇ c .stand then c .stand else if j .stands then j .number else 0;
 }
 
--- whether a change since k is over at value i, where the window is calm or not: held up to k + n. With k ≤ i, i − k ≤ n is i ≤ k + n, and cannot wrap
-abbrev pub overAt : ℕ → ℕ → ℕ → Bool → Bool
-overAt n i k calm = if i - k ≤ᵇ n then false else calm
+-- the event of one that is over with j; none where a dip or a swell first stood before the window
+abbrev pub closing : ℕ → Joining → Change → Ended
+closing n j c =
+    let settled = j .number - n in
+    if 0 <ᵇ c .stand && c .stand ≤ᵇ settled then Nothing
+    else Over (record { kind = 4; start = c .start; duration = settled - c .start; first = c .difference; second = gap (j .after) (c .sum) })
 
--- whether the signal is so held at value i
+-- whether the signal is false at value i, whatever the window: while it fills, and up to k + n in a change since k
 abbrev pub heldAt : ℕ → ℕ → Phase → Bool
-heldAt n i Filling = false
+heldAt n i Filling = i <ᵇ n
 heldAt n i Unsettled = false
 heldAt n i Steady = false
 heldAt n i (Changing c) = i - c .start ≤ᵇ n
 
--- the event of the change c, over at value i with the window's sum a
-abbrev pub closing : ℕ → ℕ → ℕ → Change → List Event
-closing n i a c =
-    let e : Event = record { kind = 4; start = c .start; duration = i - n - c .start; first = c .difference; second = gap a (c .sum) } in
-    if 0 <ᵇ c .stand && c .stand ≤ᵇ i - n then [] else e ∷ []
+-- after a value at which the signal is false; and the event that ends with one at which it is true
+abbrev pub onward : ℕ → Joining → Phase → Phase
+onward n j Filling = if j .number <ᵇ n then Filling else Unsettled
+onward n j Unsettled = Unsettled
+onward n j Steady = Changing (changeFrom j)
+onward n j (Changing c) = Changing (grown n j c)
 
--- the phase after value i, and the event that ends with it: x leaves the window, a is its sum before (of the phase) or after (of the event)
-abbrev pub phaseBy : ℕ → ℕ → ℕ → ℕ → Bool → Bool → Phase → Phase
-phaseBy n i x a stands calm Filling = if i <ᵇ n then Filling else if calm then Steady else Unsettled
-phaseBy n i x a stands calm Unsettled = if calm then Steady else Unsettled
-phaseBy n i x a stands calm Steady = if calm then Steady else Changing (begun i a stands)
-phaseBy n i x a stands calm (Changing c) = if overAt n i (c .start) calm then Steady else Changing (grown n i x stands c)
+abbrev pub endedOf : ℕ → Joining → Phase → Ended
+endedOf n j Filling = Nothing
+endedOf n j Unsettled = Nothing
+endedOf n j Steady = Nothing
+endedOf n j (Changing c) = closing n j (grown n j c)
 
-abbrev pub endedBy : ℕ → ℕ → ℕ → ℕ → Bool → Bool → Phase → List Event
-endedBy n i x a stands calm Filling = []
-endedBy n i x a stands calm Unsettled = []
-endedBy n i x a stands calm Steady = []
-endedBy n i x a stands calm (Changing c) = if overAt n i (c .start) calm then closing n i a (grown n i x stands c) else []
+-- the phase after the value j, at which the signal is true or not, and the event that ends with it
+abbrev pub movedBy : ℕ → Joining → Bool → Phase → Moved
+movedBy n j isSteady p = record { phase = if isSteady then Steady else onward n j p; ended = if isSteady then endedOf n j p else Nothing }
 
 -- the limit in force: T, or T − H in a change; and scaled
 abbrev pub limitIn : Settings → Phase → ℕ
@@ -77,16 +79,29 @@ limitOf t Unsettled = t .limit
 limitOf t Steady = t .limit
 limitOf t (Changing c) = t .reduced
 
--- value r after v values, from the window w before it: the phase, and the event that ends. The readings' sum and calm are read from the window
-abbrev pub phaseAfter : Settings → ℕ → List ℕ → ℕ → Bool → Phase → Phase
-phaseAfter s v w r stands p =
-    let n = windowLength s in
-    phaseBy n (suc v) (getD w 0 0) (windowSum s w) stands (calm s (limitIn s p) (pushed n v w r)) p
+-- the signal at j as the code tests it, where part are the other values of its window, and the code's step
+abbrev pub steadyBy : Scaled → ℕ → List ℕ → Joining → Phase → Bool
+steadyBy t n part j p = if heldAt n (j .number) p then false else calmWith n (j .after) (limitOf t p) part (j .value)
 
-abbrev pub endedAfter : Settings → ℕ → List ℕ → ℕ → Bool → Phase → List Event
-endedAfter s v w r stands p =
-    let n = windowLength s in
-    endedBy n (suc v) (getD w 0 0) (windowSum s (pushed n v w r)) stands (calm s (limitIn s p) (pushed n v w r)) p
+abbrev pub movedOn : Scaled → ℕ → List ℕ → Joining → Phase → Moved
+movedOn t n part j p = movedBy n j (steadyBy t n part j p) p
+
+-- value r after v values, from the window w of n before it; the signal there, by the reading's calm; and the step
+abbrev pub joiningOf : ℕ → ℕ → List ℕ → ℕ → Bool → Joining
+joiningOf n v w r stands = record {
+  number = suc v;
+  value = r;
+  leaving = leaving n v w;
+  before = sum (take n w);
+  after = sum (take n (pushed n v w r));
+  stands = stands;
+}
+
+abbrev pub steadyAfter : Settings → ℕ → List ℕ → ℕ → Phase → Bool
+steadyAfter s v w r p = let n = windowLength s in if heldAt n (suc v) p then false else calm s (limitIn s p) (pushed n v w r)
+
+abbrev pub movedAfter : Settings → ℕ → List ℕ → ℕ → Bool → Phase → Moved
+movedAfter s v w r stands p = let n = windowLength s in movedBy n (joiningOf n v w r stands) (steadyAfter s v w r p) p
 
 -- what a history leaves
 abbrev pub changeOf : Settings → ℕ → List ℕ → Change
@@ -105,23 +120,26 @@ phaseOf s hist = phaseOn s hist (signal s hist)
 abbrev pub standsFirst : Settings → List ℕ → Bool
 standsFirst s hist = standsSince s Dip hist ≡ᵇ length hist || standsSince s Swell hist ≡ᵇ length hist
 
--- what the code's step needs of a phase, and of its other arguments
-abbrev pub Before : ℕ → Phase → Type 0
-Before i Filling = Unit {0}
-Before i Unsettled = Unit {0}
-Before i Steady = Unit {0}
-Before i (Changing c) = c .start ≤ i
-
-pub record Steps (t : Scaled) (n i : ℕ) (part : List ℕ) (x a r : ℕ) (p : Phase) : Type 0 where
+-- what the code's step needs
+pub record Joins (t : Scaled) (n : ℕ) (j : Joining) (p : Phase) : Type 0 where
   pub some : 0 < n
   pub most : n ≤ 120
-  pub leaving-le : x ≤ 524288
-  pub sum-is : a ≡ sum part + x
-  pub sum-le : sum part + r ≤ 62914560
+  pub leaving-le : j .leaving ≤ 524288
+  pub after-le : j .after ≤ 62914560
   pub limit-le : limitOf t p ≤ 3774873
-  pub before : Before i p
 
--- what it gives, from the values that stay in the window, the one that leaves it, and their sum
-pub record MovedBy (t : Scaled) (n i : ℕ) (part : List ℕ) (x a r : ℕ) (stands : Bool) (p : Phase) (m : Moved) : Type 0 where
-  pub phase-is : m .phase ≡ phaseBy n i x a stands (calmWith n (sum part + r) (limitOf t p) part r) p
-  pub ended-is : listOf (m .ended) ≡ endedBy n i x (sum part + r) stands (calmWith n (sum part + r) (limitOf t p) part r) p
+-- what refusal 11 allows of a change, and of a phase, in a window of n values, after v of them
+pub record ValidChange (n v : ℕ) (c : Change) : Type 0 where
+  pub late : n < c .start
+  pub seen : c .start ≤ v
+  pub sum-le : c .sum ≤ n * 524288
+  pub difference-le : c .difference ≤ n * 524288
+  pub early : v - c .start < n → c .difference ≡ 0
+  pub stand-le : c .stand ≤ v
+  pub stand-from : 0 < c .stand → c .start ≤ c .stand
+
+abbrev pub ValidPhase : ℕ → ℕ → Phase → Type 0
+ValidPhase n v Filling = v < n
+ValidPhase n v Unsettled = n ≤ v
+ValidPhase n v Steady = n ≤ v
+ValidPhase n v (Changing c) = ValidChange n v c

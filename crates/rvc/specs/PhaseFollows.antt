@@ -4,20 +4,24 @@ use mathlib.Core.Bool.{Bool, true, false}
 use mathlib.Core.List.{List, [], _∷_}
 use Prim.Native.Nat.{ℕ, suc, _+_, _-_, _≤_, _<_}
 use native.Mathlib.Omega.{arith}
-use lib.ListN.{length, getD}
+use lib.ListN.{length}
 use borrow.Author.Tests.{ltb-true, ltb-false, le-leb, lt-leb, leb-true, leb-false}
+use Rattle.numbers.specs.Notation.{_≤ᵇ_, _<ᵇ_, if_then_else_}
 use Rattle.settings.specs.declared.Settings.{Settings}
-use Rattle.settings.specs.Notation.{_≤ᵇ_, _<ᵇ_, if_then_else_}
 use Rattle.settings.specs.Settings.{windowLength}
 use Rattle.settings.specs.SettingsLaws.{windowLength-some, windowLength-most}
-use Rattle.reading.specs.declared.Event.{Event}
-use Rattle.reading.specs.Changes.{windowSum, calm, Signal, next, signal, changeEvent, changeOver, changeDue}
+use Rattle.reading.specs.Changes.{calm, Signal, next, signal, changeOver, changeDue}
 use Rattle.reading.specs.Changes.Signal.{filling, unsettled, steady, changing}
+use Rattle.threshold.specs.declared.Ended.the-variants.{Nothing}
+use Rattle.threshold.specs.Standing.{listOf}
 use Rattle.window.specs.Window.{windowOf}
 use Rattle.window.specs.WindowFollows.{window-follows, calm-windowOf}
+use Rattle.rvc.specs.declared.Change.{Change}
+use Rattle.rvc.specs.declared.Phase.{Phase}
 use Rattle.rvc.specs.declared.Phase.the-variants.{Filling, Unsettled, Steady, Changing}
-use Rattle.rvc.specs.Phase.{grown, overAt, closing, phaseBy, endedBy, limitIn, phaseAfter, endedAfter, changeOf, phaseOn, phaseOf, standsFirst}
-use Rattle.rvc.specs.ChangeFollows.{change-grows, change-begins, change-ends}
+use Rattle.rvc.specs.declared.Moved.{Moved}
+use Rattle.rvc.specs.Phase.{grown, heldAt, closing, movedBy, limitIn, movedAfter, changeOf, phaseOn, phaseOf, standsFirst}
+use Rattle.rvc.specs.ChangeFollows.{joiningNewest, change-grows, change-begins, change-ends}
 
 -- the signal knows how many values there are: a change starts after the first window
 abbrev ValidSignal : ℕ → ℕ → Signal → Type 0
@@ -74,30 +78,24 @@ module _ (s : Settings) (r : ℕ) (older : List ℕ) where
   abbrev i : ℕ
   i = suc (length older)
 
-  -- the window before value r and after it
-  abbrev w : List ℕ
-  w = windowOf (windowLength s) older
+  -- the signal, as the step has it from the window with value r, and as the reading has it in a change
+  abbrev steadyOn : Phase → Bool
+  steadyOn p = if heldAt n i p then false else calm s (limitIn s p) (windowOf (windowLength s) (r ∷ older))
 
-  abbrev w′ : List ℕ
-  w′ = windowOf (windowLength s) (r ∷ older)
-
-  abbrev stands : Bool
-  stands = standsFirst s (r ∷ older)
-
-  over-is : (k : ℕ) → (n < k) × (k ≤ length older) →
-      overAt n i k (calm s (s .limit - s .reduction) w′) ≡ (if i ≤ᵇ k + n then false else calm s (s .limit - s .reduction) (r ∷ older))
-  over-is k h = rw (age-is i k n (omega arith), calm-windowOf s (s .limit - s .reduction) (r ∷ older) (omega arith))
+  signal-is : (k : ℕ) → (n < k) × (k ≤ length older) →
+      steadyOn (Changing (changeOf s k older)) ≡ (if i ≤ᵇ k + n then false else calm s (s .limit - s .reduction) (r ∷ older))
+  signal-is k h = rw (age-is i k n (omega arith), calm-windowOf s (s .limit - s .reduction) (r ∷ older) (omega arith))
 
   settles : (c : Bool) → (if c then Steady else Unsettled) ≡ phaseOn s (r ∷ older) (if c then steady else unsettled)
   settles true = refl
   settles false = refl
 
   phase-on : (p : Signal) → ValidSignal n (length older) p →
-      phaseBy n i (getD w 0 0) (windowSum s w) stands (calm s (limitIn s (phaseOn s older p)) w′) (phaseOn s older p)
-      ≡ phaseOn s (r ∷ older) (next s (r ∷ older) p)
+      movedBy n (joiningNewest s r older) (steadyOn (phaseOn s older p)) (phaseOn s older p) .phase ≡ phaseOn s (r ∷ older) (next s (r ∷ older) p)
   phase-on filling h = fills (i <ᵇ n) refl
     where
-      fills : (b : Bool) → (i <ᵇ n) ≡ b → (if b then Filling else if calm s (s .limit) w′ then Steady else Unsettled)
+      fills : (b : Bool) → (i <ᵇ n) ≡ b →
+          (if (if b then false else calm s (s .limit) (windowOf (windowLength s) (r ∷ older))) then Steady else if b then Filling else Unsettled)
           ≡ phaseOn s (r ∷ older) (if b then filling else if calm s (s .limit) (r ∷ older) then steady else unsettled)
       fills true e = refl
       fills false e = rw (calm-windowOf s (s .limit) (r ∷ older) (ltb-false _ _ e)) (settles (calm s (s .limit) (r ∷ older)))
@@ -107,7 +105,7 @@ module _ (s : Settings) (r : ℕ) (older : List ℕ) where
       leaves : (c : Bool) → (if c then Steady else Changing (changeOf s i (r ∷ older))) ≡ phaseOn s (r ∷ older) (if c then steady else changing i)
       leaves true = refl
       leaves false = refl
-  phase-on (changing k) h = rw (over-is k h, change-grows s k r older (h .0) (h .1)) (stays (i ≤ᵇ k + n) (calm s (s .limit - s .reduction) (r ∷ older)))
+  phase-on (changing k) h = rw (signal-is k h, change-grows s k r older (h .0) (h .1)) (stays (i ≤ᵇ k + n) (calm s (s .limit - s .reduction) (r ∷ older)))
     where
       stays : (b c : Bool) → (if (if b then false else c) then Steady else Changing (changeOf s k (r ∷ older)))
           ≡ phaseOn s (r ∷ older) (if b then changing k else if c then steady else changing k)
@@ -115,31 +113,33 @@ module _ (s : Settings) (r : ℕ) (older : List ℕ) where
       stays false true = refl
       stays false false = refl
 
-  ended-on : (p : Signal) → ValidSignal n (length older) p →
-      endedBy n i (getD w 0 0) (windowSum s w′) stands (calm s (limitIn s (phaseOn s older p)) w′) (phaseOn s older p)
-      ≡ changeOver s (r ∷ older) p (next s (r ∷ older) p)
-  ended-on filling h = refl
-  ended-on unsettled h = refl
-  ended-on steady h = refl
-  ended-on (changing k) h =
-      rw (over-is k h) (ap (λ (e : List Event). if (if i ≤ᵇ k + n then false else calm s (s .limit - s .reduction) (r ∷ older)) then e else []) gives
-      ∙ ends (i ≤ᵇ k + n) (calm s (s .limit - s .reduction) (r ∷ older)))
-    where
-      gives : closing n i (windowSum s w′) (grown n i (getD w 0 0) stands (changeOf s k older)) ≡ changeEvent s k (r ∷ older)
-      gives = ap (closing n i (windowSum s w′)) (change-grows s k r older (h .0) (h .1)) ∙ change-ends s k (r ∷ older) (omega arith)
+  none : (b : Bool) → listOf (if b then Nothing else Nothing) ≡ []
+  none true = refl
+  none false = refl
 
-      ends : (b c : Bool) → (if (if b then false else c) then changeEvent s k (r ∷ older) else [])
+  ended-on : (p : Signal) → ValidSignal n (length older) p →
+      listOf (movedBy n (joiningNewest s r older) (steadyOn (phaseOn s older p)) (phaseOn s older p) .ended) ≡ changeOver s (r ∷ older) p (next s (r ∷ older) p)
+  ended-on filling h = none (steadyOn Filling)
+  ended-on unsettled h = none (steadyOn Unsettled)
+  ended-on steady h = none (steadyOn Steady)
+  ended-on (changing k) h = rw (signal-is k h) (ends (i ≤ᵇ k + n) (calm s (s .limit - s .reduction) (r ∷ older)))
+    where
+      ends : (b c : Bool) → listOf (if (if b then false else c) then closing n (joiningNewest s r older) (grown n (joiningNewest s r older) (changeOf s k older)) else Nothing)
           ≡ changeOver s (r ∷ older) (changing k) (if b then changing k else if c then steady else changing k)
       ends true c = refl
-      ends false true = refl
+      ends false true =
+          ap (λ (c : Change). listOf (closing n (joiningNewest s r older) c)) (change-grows s k r older (h .0) (h .1)) ∙ change-ends s k r older (omega arith)
       ends false false = refl
 
-pub phase-follows : (s : Settings) (r : ℕ) (older : List ℕ) →
-    phaseAfter s (length older) (windowOf (windowLength s) older) r (standsFirst s (r ∷ older)) (phaseOf s older) ≡ phaseOf s (r ∷ older)
-phase-follows s r older =
-    rw (window-follows (windowLength s) r older (windowLength-some s) (windowLength-most s)) (phase-on s r older (signal s older) (signal-valid s older))
+module _ (s : Settings) (r : ℕ) (older : List ℕ) where
+  -- value r joins the window that the older values leave
+  abbrev moved : Moved
+  moved = movedAfter s (length older) (windowOf (windowLength s) older) r (standsFirst s (r ∷ older)) (phaseOf s older)
 
-pub ended-follows : (s : Settings) (r : ℕ) (older : List ℕ) →
-    endedAfter s (length older) (windowOf (windowLength s) older) r (standsFirst s (r ∷ older)) (phaseOf s older) ≡ changeDue s (r ∷ older)
-ended-follows s r older =
-    rw (window-follows (windowLength s) r older (windowLength-some s) (windowLength-most s)) (ended-on s r older (signal s older) (signal-valid s older))
+  pub phase-follows : moved .phase ≡ phaseOf s (r ∷ older)
+  phase-follows =
+      rw (window-follows (windowLength s) r older (windowLength-some s) (windowLength-most s)) (phase-on s r older (signal s older) (signal-valid s older))
+
+  pub ended-follows : listOf (moved .ended) ≡ changeDue s (r ∷ older)
+  ended-follows =
+      rw (window-follows (windowLength s) r older (windowLength-some s) (windowLength-most s)) (ended-on s r older (signal s older) (signal-valid s older))

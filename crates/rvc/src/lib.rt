@@ -3,13 +3,10 @@ use reading::Event;
 use settings::Scaled;
 use threshold::Ended;
 ghost use mathlib.Core.Path.{_≡_};
-ghost use mathlib.Core.Bool.{false};
-ghost use Prim.Native.Nat.{_-_, _*_, _≤_, _<_, max};
-ghost use Rattle.settings.specs.Notation.{_<ᵇ_, if_then_else_};
+ghost use Prim.Native.Nat.{_*_, _≤_, _<_, max};
+ghost use Rattle.numbers.specs.Notation.{_<ᵇ_, if_then_else_};
 ghost use Rattle.reading.specs.Changes.{gap};
-ghost use Rattle.threshold.specs.Standing.{listOf};
-ghost use Rattle.window.specs.Range.{calmWith};
-ghost use Rattle.rvc.specs.Phase.{begun, grown, overAt, heldAt, closing, limitOf, phaseBy, endedBy, Before, Steps, MovedBy};
+ghost use Rattle.rvc.specs.Phase.{changeFrom, grown, closing, heldAt, limitOf, steadyBy, onward, endedOf, movedOn, Joins};
 
 // A change in progress.
 pub struct Change {
@@ -31,7 +28,21 @@ pub enum Phase {
     Changing(Change),
 }
 
-// The phase after a value, and the event of a change that ends with it, or none.
+// A value that joins the window.
+pub struct Joining {
+    // Its number, from 1.
+    pub number: u64,
+    pub value: u32,
+    // The value that leaves the window, 0 where none does.
+    pub leaving: u64,
+    // The window's sum before it, and with it.
+    pub before: u64,
+    pub after: u64,
+    // Whether a dip or a swell first stands at it.
+    pub stands: bool,
+}
+
+// The phase after a value, and the event of a change that ends with it, if one does.
 pub struct Moved {
     pub phase: Phase,
     pub ended: Ended,
@@ -55,38 +66,44 @@ fn first_stand(kept: u64, stands: bool, i: u64) -> u64
 }
 
 // The greatest difference, `age` values after the change's start: with the value that leaves the window, once that is one of the change's own.
-fn greatest(size: u64, age: u64, leaving: u64, sum: u64, kept: u64) -> u64
-    requires { ⌜ (size ≤ 120) × (leaving ≤ 524288) ⌝ }
-    ensures { λ r. ⌜ r ≡ (if age <ᵇ size then kept else max (gap (size * leaving) sum) kept) ⌝ }
+fn greatest(window_length: u64, age: u64, leaving: u64, sum: u64, kept: u64) -> u64
+    requires { ⌜ («window_length» ≤ 120) × (leaving ≤ 524288) ⌝ }
+    ensures { λ r. ⌜ r ≡ (if age <ᵇ «window_length» then kept else max (gap («window_length» * leaving) sum) kept) ⌝ }
 {
-    if age < size {
+    if age < window_length {
         return kept;
     }
-    let difference = distance(size * leaving, sum);
+    let difference = distance(window_length * leaving, sum);
     if kept < difference { difference } else { kept }
 }
 
 impl Change {
-    // A change that begins at value i, with the window's sum before it.
-    fn begin(i: u64, sum: u64, stands: bool) -> Change
-        ensures { λ r. ⌜ r ≡ begun i sum stands ⌝ }
+    // A change that begins with a value.
+    fn begin(joining: Joining) -> Change
+        ensures { λ r. ⌜ r ≡ changeFrom joining ⌝ }
     {
-        let stand = if stands { i } else { 0 };
+        let stand = if joining.stands { joining.number } else { 0 };
         Change {
-            start: i,
-            sum,
+            start: joining.number,
+            sum: joining.before,
             difference: 0,
             stand,
         }
     }
 
-    // With value i, at which `leaving` leaves the window.
-    fn with_value(self, size: u64, i: u64, leaving: u64, stands: bool) -> Change
-        requires { ⌜ (size ≤ 120) × (leaving ≤ 524288) × (self .start ≤ i) ⌝ }
-        ensures { λ r. ⌜ r ≡ grown size i leaving stands self ⌝ }
+    fn with_value(self, window_length: u64, joining: Joining) -> Change
+        requires { ⌜ («window_length» ≤ 120) × (joining .leaving ≤ 524288) ⌝ }
+        ensures { λ r. ⌜ r ≡ grown «window_length» joining self ⌝ }
     {
-        let difference = greatest(size, i - self.start, leaving, self.sum, self.difference);
-        let stand = first_stand(self.stand, stands, i);
+        let age = numbers::minus(joining.number, self.start);
+        let difference = greatest(
+            window_length,
+            age,
+            joining.leaving,
+            self.sum,
+            self.difference,
+        );
+        let stand = first_stand(self.stand, joining.stands, joining.number);
         Change {
             start: self.start,
             sum: self.sum,
@@ -95,37 +112,28 @@ impl Change {
         }
     }
 
-    // Whether it is over at value i, where the window is calm or not. It is held for as many values as the window has.
-    fn is_over(self, size: u64, i: u64, calm: bool) -> bool
-        requires { ⌜ self .start ≤ i ⌝ }
-        ensures { λ r. ⌜ r ≡ overAt size i (self .start) calm ⌝ }
+    // Its event, over with a value; none where a dip or a swell first stood before the window.
+    fn event(self, window_length: u64, joining: Joining) -> Ended
+        ensures { λ r. ⌜ r ≡ closing «window_length» joining self ⌝ }
     {
-        if i - self.start <= size { false } else { calm }
-    }
-
-    // Its event, over at value i with the window's sum there; none where a dip or a swell first stood before the last `size` values.
-    fn event(self, size: u64, i: u64, sum: u64) -> Ended
-        ensures { λ r. ⌜ listOf r ≡ closing size i sum self ⌝ }
-    {
-        let settled = window::less(i, size);
+        let settled = numbers::minus(joining.number, window_length);
+        if (0 < self.stand) & (self.stand <= settled) {
+            return Ended::Nothing;
+        }
         let event = Event {
             kind: Event::CHANGE,
             start: self.start,
-            duration: window::less(settled, self.start),
+            duration: numbers::minus(settled, self.start),
             first: self.difference,
-            second: distance(sum, self.sum),
+            second: distance(joining.after, self.sum),
         };
-        if 0 < self.stand {
-            let over = settled < self.stand;
-            return Ended { over, event };
-        }
-        Ended { over: true, event }
+        Ended::Over(event)
     }
 }
 
 impl Phase {
     // The limit in force.
-    pub fn limit(self, scaled: Scaled) -> u64
+    fn limit(self, scaled: Scaled) -> u64
         ensures { λ r. ⌜ r ≡ limitOf scaled self ⌝ }
     {
         match self {
@@ -136,110 +144,85 @@ impl Phase {
         }
     }
 
-    // After value i, at which `leaving` leaves the window: `before` is the window's sum before it.
-    fn next(self, size: u64, i: u64, leaving: u64, before: u64, stands: bool, calm: bool) -> Phase
-        requires { ⌜ (size ≤ 120) × (leaving ≤ 524288) × Before i self ⌝ }
-        ensures { λ r. ⌜ r ≡ phaseBy size i leaving before stands calm self ⌝ }
+    // Whether the signal is false at value i, whatever the window: while it fills, and in a change up to k + N.
+    fn holds(self, window_length: u64, i: u64) -> bool
+        ensures { λ b. ⌜ b ≡ heldAt «window_length» i self ⌝ }
+    {
+        match self {
+            Phase::Filling => i < window_length,
+            Phase::Unsettled => false,
+            Phase::Steady => false,
+            Phase::Changing(change) => numbers::minus(i, change.start) <= window_length,
+        }
+    }
+
+    // The signal at a value, the newest of a window whose other values are `part`. While it is held the window is not looked at.
+    fn is_steady(self, scaled: Scaled, window_length: u64, part: &[u32], joining: Joining) -> bool
+        requires { ⌜ Joins scaled «window_length» joining self ⌝ }
+        ensures { λ b. ⌜ b ≡ steadyBy scaled «window_length» (now (part .entry)) joining self ⌝ }
+    {
+        if self.holds(window_length, joining.number) {
+            return false;
+        }
+        window::calm(
+            part,
+            joining.value,
+            window_length,
+            joining.after,
+            self.limit(scaled),
+        )
+    }
+
+    // After a value at which the signal is false.
+    fn onward(self, window_length: u64, joining: Joining) -> Phase
+        requires { ⌜ («window_length» ≤ 120) × (joining .leaving ≤ 524288) ⌝ }
+        ensures { λ r. ⌜ r ≡ onward «window_length» joining self ⌝ }
     {
         match self {
             Phase::Filling => {
-                if i < size {
-                    return Phase::Filling;
-                }
-                if calm {
-                    Phase::Steady
+                if joining.number < window_length {
+                    Phase::Filling
                 } else {
                     Phase::Unsettled
                 }
             }
-            Phase::Unsettled => {
-                if calm {
-                    Phase::Steady
-                } else {
-                    Phase::Unsettled
-                }
-            }
-            Phase::Steady => {
-                if calm {
-                    Phase::Steady
-                } else {
-                    Phase::Changing(Change::begin(i, before, stands))
-                }
-            }
-            Phase::Changing(change) => {
-                if change.is_over(size, i, calm) {
-                    Phase::Steady
-                } else {
-                    Phase::Changing(change.with_value(size, i, leaving, stands))
-                }
-            }
+            Phase::Unsettled => Phase::Unsettled,
+            Phase::Steady => Phase::Changing(Change::begin(joining)),
+            Phase::Changing(change) => Phase::Changing(change.with_value(window_length, joining)),
         }
     }
 
-    // The event of a change that ends with value i: `after` is the window's sum with it.
-    fn ended(self, size: u64, i: u64, leaving: u64, after: u64, stands: bool, calm: bool) -> Ended
-        requires { ⌜ (size ≤ 120) × (leaving ≤ 524288) × Before i self ⌝ }
-        ensures { λ r. ⌜ listOf r ≡ endedBy size i leaving after stands calm self ⌝ }
+    // The event of a change that ends with a value, at which the signal is true.
+    fn ended(self, window_length: u64, joining: Joining) -> Ended
+        requires { ⌜ («window_length» ≤ 120) × (joining .leaving ≤ 524288) ⌝ }
+        ensures { λ r. ⌜ r ≡ endedOf «window_length» joining self ⌝ }
     {
         match self {
-            Phase::Filling => Ended::none(),
-            Phase::Unsettled => Ended::none(),
-            Phase::Steady => Ended::none(),
-            Phase::Changing(change) => {
-                if change.is_over(size, i, calm) {
-                    change
-                        .with_value(size, i, leaving, stands)
-                        .event(size, i, after)
-                } else {
-                    Ended::none()
-                }
-            }
+            Phase::Filling => Ended::Nothing,
+            Phase::Unsettled => Ended::Nothing,
+            Phase::Steady => Ended::Nothing,
+            Phase::Changing(change) => change
+                .with_value(window_length, joining)
+                .event(window_length, joining),
         }
     }
 
-    // Whether a change holds the signal false at value i, calm or not: up to k + N.
-    fn holds(self, size: u64, i: u64) -> bool
-        requires { ⌜ Before i self ⌝ }
-        ensures { λ b. ⌜ b ≡ heldAt size i self ⌝ }
+    // After a value, the newest of a window whose other values are `part`.
+    pub fn step(self, scaled: Scaled, window_length: u64, part: &[u32], joining: Joining) -> Moved
+        requires { ⌜ Joins scaled «window_length» joining self ⌝ }
+        ensures { λ r. ⌜ r ≡ movedOn scaled «window_length» (now (part .entry)) joining self ⌝ }
     {
-        match self {
-            Phase::Filling => false,
-            Phase::Unsettled => false,
-            Phase::Steady => false,
-            Phase::Changing(change) => i - change.start <= size,
+        if self.is_steady(scaled, window_length, part, joining) {
+            let ended = self.ended(window_length, joining);
+            return Moved {
+                phase: Phase::Steady,
+                ended,
+            };
         }
-    }
-
-    // Whether a window with this sum is calm. While a change holds the signal nothing depends on it, and the window is not looked at.
-    fn calm(self, scaled: Scaled, size: u64, i: u64, part: &[u32], newest: u32, sum: u64) -> bool
-        requires { ⌜ (0 < size) × (size ≤ 120) × (sum ≤ 62914560) × (limitOf scaled self ≤ 3774873) × Before i self ⌝ }
-        ensures { λ b. ⌜ b ≡ (if heldAt size i self then false else calmWith size sum (limitOf scaled self) (now (part .entry)) newest) ⌝ }
-    {
-        if self.holds(size, i) {
-            return false;
+        let phase = self.onward(window_length, joining);
+        Moved {
+            phase,
+            ended: Ended::Nothing,
         }
-        window::calm(part, newest, size, sum, self.limit(scaled))
-    }
-
-    // After value i, the newest of a window of `size` whose other values are `part`: `leaving` has left it, and `before` is the sum of part and of that.
-    pub fn step(
-        self,
-        scaled: Scaled,
-        size: u64,
-        i: u64,
-        part: &[u32],
-        leaving: u64,
-        before: u64,
-        newest: u32,
-        stands: bool,
-    ) -> Moved
-        requires { ⌜ Steps scaled size i (now part) leaving before newest self ⌝ }
-        ensures { λ r. ⌜ MovedBy scaled size i (now (part .entry)) leaving before newest stands self r ⌝ }
-    {
-        let after = before - leaving + newest as u64;
-        let calm = self.calm(scaled, size, i, part, newest, after);
-        let phase = self.next(size, i, leaving, before, stands, calm);
-        let ended = self.ended(size, i, leaving, after, stands, calm);
-        Moved { phase, ended }
     }
 }

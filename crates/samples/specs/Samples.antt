@@ -2,7 +2,7 @@
 use mathlib.Core.List.{List, [], _∷_}
 use Prim.Native.Nat.{ℕ, _+_, _-_, _*_}
 use lib.IntN.{ℤ, pos, negsuc}
-use Rattle.settings.specs.Notation.{_<ᵇ_, if_then_else_}
+use Rattle.numbers.specs.Notation.{_<ᵇ_, if_then_else_}
 
 -- a number of 16 bits in two's complement: n, or from 32,768 on n − 65,536, which is −1 − (65,535 − n)
 unfoldable pub signed : ℕ → ℤ

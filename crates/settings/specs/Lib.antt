@@ -1,4 +1,2 @@
-pub mod Notation
-pub mod NotationLaws
 pub mod Settings
 pub mod SettingsLaws

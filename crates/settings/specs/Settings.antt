@@ -1,10 +1,11 @@
 -- 01, "Settings": nine numbers of 4 bytes, their ranges, and the refusals of start.
-use mathlib.Core.Bool.{Bool, _&&_, _||_}
+use mathlib.Core.Path.{_≡_}
+use mathlib.Core.Bool.{Bool, _&&_, _||_, true}
 use mathlib.Core.List.{List, [], _∷_}
-use Prim.Native.Nat.{ℕ, zero, suc, _+_, _-_, _*_, _/_}
+use Prim.Native.Nat.{ℕ, zero, suc, _+_, _-_, _*_, _/_, _≤_, _<_}
 use lib.ListN.{length}
 use Rattle.octets.specs.Bytes.{words, numberAt}
-use Rattle.settings.specs.Notation.{_≤ᵇ_, _<ᵇ_, _≡ᵇ_, if_then_else_, refuse_unless_then_}
+use Rattle.numbers.specs.Notation.{_≤ᵇ_, _<ᵇ_, _≡ᵇ_, if_then_else_, refuse_unless_then_}
 use Rattle.settings.specs.declared.Settings.{Settings}
 use Rattle.settings.specs.declared.SettingsRead.{SettingsRead}
 use Rattle.settings.specs.declared.SettingsRead.the-variants.{Read, Refused}
@@ -90,3 +91,21 @@ scaledOf s = record {
   limit = s .limit * windowLength s * s .declared / 10000;
   reduced = (s .limit - s .reduction) * windowLength s * s .declared / 10000;
 }
+
+-- what the refusals 2 to 6 leave
+pub record ValidSettings (s : Settings) : Type 0 where
+  pub samples-least : 8 ≤ s .samples
+  pub samples-most : s .samples ≤ 256
+  pub frequency-known : (s .frequency ≡ᵇ 50 || s .frequency ≡ᵇ 60) ≡ true
+  pub declared-least : 16 ≤ s .declared
+  pub declared-most : s .declared ≤ 524288
+  pub limit-least : 50 ≤ s .limit
+  pub limit-most : s .limit ≤ 600
+  pub reduction-less : s .reduction < s .limit
+  pub interruption-least : 1 ≤ s .interruption
+  pub interruption-most : s .interruption ≤ 20000
+  pub dip-most : s .dip ≤ 20000
+  pub swell-most : s .swell ≤ 20000
+  pub hysteresis-most : s .hysteresis ≤ 20000
+  pub dip-above : s .interruption + s .hysteresis ≤ s .dip
+  pub swell-above : s .dip + 2 * s .hysteresis < s .swell

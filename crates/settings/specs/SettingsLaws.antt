@@ -9,9 +9,9 @@ use lib.Seq.{take-length}
 use borrow.Author.Tests.{eqb-true, eq-eqb, leb-true, le-leb, ltb-true, lt-ltb}
 use Rattle.octets.specs.Bytes.{Bytes}
 use Rattle.octets.specs.BytesLaws.{Words, length-words, wordsAt-words, words-wordsAt}
-use Rattle.settings.specs.Notation.{_≤ᵇ_, _<ᵇ_, _≡ᵇ_, if_then_else_}
-use Rattle.settings.specs.NotationLaws.{and-true, and-left, and-right, refuse-passes, refuse-none}
-use Rattle.settings.specs.Settings.{windowLength, numbersOf, settingsBytes, settingsOf, settingsRefusal, startRefusal, answerOf, settingsRead}
+use Rattle.numbers.specs.Notation.{_≤ᵇ_, _<ᵇ_, _≡ᵇ_, if_then_else_}
+use Rattle.numbers.specs.NotationLaws.{and-true, and-left, and-right, refuse-passes, refuse-none}
+use Rattle.settings.specs.Settings.{windowLength, numbersOf, settingsBytes, settingsOf, settingsRefusal, startRefusal, answerOf, settingsRead, ValidSettings}
 use Rattle.settings.specs.Settings.{samplesGood, frequencyGood, declaredGood, limitGood, levelsGood, orderGood}
 use Rattle.settings.specs.declared.Settings.{Settings}
 use Rattle.settings.specs.declared.SettingsRead.the-variants.{Read, Refused}
@@ -30,24 +30,6 @@ windowLength-most s = go (s .frequency ≡ᵇ 50)
     go : (b : Bool) → (if b then 100 else 120) ≤ 120
     go true = omega arith
     go false = omega arith
-
--- what the refusals 2 to 6 leave
-pub record ValidSettings (s : Settings) : Type 0 where
-  pub samples-least : 8 ≤ s .samples
-  pub samples-most : s .samples ≤ 256
-  pub frequency-known : (s .frequency ≡ᵇ 50 || s .frequency ≡ᵇ 60) ≡ true
-  pub declared-least : 16 ≤ s .declared
-  pub declared-most : s .declared ≤ 524288
-  pub limit-least : 50 ≤ s .limit
-  pub limit-most : s .limit ≤ 600
-  pub reduction-less : s .reduction < s .limit
-  pub interruption-least : 1 ≤ s .interruption
-  pub interruption-most : s .interruption ≤ 20000
-  pub dip-most : s .dip ≤ 20000
-  pub swell-most : s .swell ≤ 20000
-  pub hysteresis-most : s .hysteresis ≤ 20000
-  pub dip-above : s .interruption + s .hysteresis ≤ s .dip
-  pub swell-above : s .dip + 2 * s .hysteresis < s .swell
 
 module _ (s : Settings) where
   abbrev levels : Bool

@@ -2,9 +2,8 @@
 ghost use mathlib.Core.Path.{_≡_};
 ghost use Prim.Native.Nat.{_*_, _≤_, _/_};
 ghost use lib.ListN.{length};
-ghost use Rattle.settings.specs.Settings.{windowLength, settingsBytes, settingsOf, settingsRefusal, settingsRead, scaledOf};
+ghost use Rattle.settings.specs.Settings.{windowLength, settingsBytes, settingsOf, settingsRefusal, settingsRead, scaledOf, ValidSettings};
 ghost use Rattle.settings.specs.Settings.{samplesGood, frequencyGood, declaredGood, limitGood, levelsGood, orderGood};
-ghost use Rattle.settings.specs.SettingsLaws.{ValidSettings};
 
 // In 01's order: M, F, U, T, H, I, D, W, G.
 pub struct Settings {

@@ -1,11 +1,11 @@
 -- One value's step of a dip, a swell or an interruption, and what a history leaves of it.
+use mathlib.Core.Path.{_≡_}
 use mathlib.Core.Bool.{Bool, _&&_}
 use mathlib.Core.List.{List, [], _∷_}
-use Prim.Native.Nat.{ℕ, zero, suc, _-_, _*_, min, max}
+use Prim.Native.Nat.{ℕ, zero, suc, _-_, _*_, min, max, _≤_}
 use Rattle.settings.specs.declared.Settings.{Settings}
 use Rattle.settings.specs.declared.Threshold.{Threshold}
-use Rattle.settings.specs.Notation.{_≤ᵇ_, _<ᵇ_, _≡ᵇ_, if_then_else_}
-use Rattle.settings.specs.Settings.{scaledOf}
+use Rattle.numbers.specs.Notation.{_≤ᵇ_, _<ᵇ_, _≡ᵇ_, if_then_else_}
 use Rattle.reading.specs.declared.Kind.{Kind}
 use Rattle.reading.specs.declared.Kind.the-variants.{Dip, Swell, Interruption}
 use Rattle.reading.specs.declared.Event.{Event}
@@ -13,13 +13,9 @@ use Rattle.reading.specs.Values.{since}
 use Rattle.reading.specs.Thresholds.{standsSince, magnitude}
 use Rattle.threshold.specs.declared.Standing.{Standing}
 use Rattle.threshold.specs.declared.Ended.{Ended}
+use Rattle.threshold.specs.declared.Ended.the-variants.{Nothing, Over}
 
 -- the two tests against a kind's scaled levels
-abbrev pub thresholdOf : Settings → Kind → Threshold
-thresholdOf s Dip = scaledOf s .dip
-thresholdOf s Swell = scaledOf s .swell
-thresholdOf s Interruption = scaledOf s .interruption
-
 abbrev pub beginsAt : Kind → Threshold → ℕ → Bool
 beginsAt Dip t r = 10000 * r <ᵇ t .begins
 beginsAt Swell t r = t .begins <ᵇ 10000 * r
@@ -50,14 +46,16 @@ stepped k i r begins ends p =
     else if p .start ≡ᵇ 0 then noEvent
     else worsened k r p
 
--- the event of a record's kind that stood as p before value i and stands as q after it
-abbrev pub endedAt : ℕ → ℕ → Standing → Standing → List Event
+-- the event of a record's kind that stood as p before value i and, as q says, stands no longer after it
+abbrev pub endedAt : ℕ → ℕ → Standing → Standing → Ended
 endedAt code i p q =
-    let e : Event = record { kind = code; start = p .start; duration = i - p .start; first = p .magnitude; second = 0 } in
-    if 0 <ᵇ p .start && q .start ≡ᵇ 0 then e ∷ [] else []
+    if 0 <ᵇ p .start && q .start ≡ᵇ 0 then Over (record { kind = code; start = p .start; duration = i - p .start; first = p .magnitude; second = 0 })
+    else Nothing
 
+-- the events, none or one
 abbrev pub listOf : Ended → List Event
-listOf e = if e .over then e .event ∷ [] else []
+listOf Nothing = []
+listOf (Over e) = e ∷ []
 
 -- what a history leaves
 abbrev pub magnitudeSince : Kind → ℕ → List ℕ → ℕ
@@ -66,3 +64,9 @@ magnitudeSince k (suc a) hist = magnitude k (since (suc a) hist)
 
 abbrev pub standingOf : Settings → Kind → List ℕ → Standing
 standingOf s k hist = record { start = standsSince s k hist; magnitude = magnitudeSince k (standsSince s k hist) hist }
+
+-- what refusal 11 allows of an event, after v values
+pub record ValidStanding (v : ℕ) (p : Standing) : Type 0 where
+  pub start-le : p .start ≤ v
+  pub magnitude-le : p .magnitude ≤ 524288
+  pub none-zero : p .start ≡ 0 → p .magnitude ≡ 0

@@ -8,27 +8,17 @@ use native.Mathlib.Omega.{arith}
 use lib.ListN.{length, take}
 use lib.Dec.{eqb·suc-zero}
 use Rattle.settings.specs.declared.Settings.{Settings}
-use Rattle.settings.specs.Notation.{_<ᵇ_, _≡ᵇ_, if_then_else_}
+use Rattle.numbers.specs.Notation.{_<ᵇ_, _≡ᵇ_, if_then_else_}
 use Rattle.reading.specs.declared.Kind.{Kind}
 use Rattle.reading.specs.declared.Kind.the-variants.{Dip, Swell, Interruption}
 use Rattle.reading.specs.declared.Event.{Event}
 use Rattle.reading.specs.Values.{since}
 use Rattle.reading.specs.Thresholds.{begins, ends, standsSince, magnitude, kindNumber, thresholdDue}
 use Rattle.threshold.specs.declared.Standing.{Standing}
-use Rattle.threshold.specs.Standing.{thresholdOf, beginsAt, endsAt, worse, stepped, endedAt, magnitudeSince, standingOf}
+use Rattle.threshold.specs.declared.Ended.the-variants.{Nothing, Over}
+use Rattle.threshold.specs.Standing.{worse, stepped, endedAt, listOf, magnitudeSince, standingOf}
 
--- the code's tests are the reading's
-pub begins-is : (s : Settings) (k : Kind) (r : ℕ) → beginsAt k (thresholdOf s k) r ≡ begins s k r
-begins-is s Dip r = refl
-begins-is s Swell r = refl
-begins-is s Interruption r = refl
-
-pub ends-is : (s : Settings) (k : Kind) (r : ℕ) → endsAt k (thresholdOf s k) r ≡ ends s k r
-ends-is s Dip r = refl
-ends-is s Swell r = refl
-ends-is s Interruption r = refl
-
-pub standsSince-le : (s : Settings) (k : Kind) (hist : List ℕ) → standsSince s k hist ≤ length hist
+standsSince-le : (s : Settings) (k : Kind) (hist : List ℕ) → standsSince s k hist ≤ length hist
 standsSince-le s k [] = omega arith
 standsSince-le s k (r ∷ older) = go (begins s k r) (ends s k r) (standsSince s k older ≡ᵇ 0) (standsSince s k older) (standsSince-le s k older)
   where
@@ -83,12 +73,17 @@ follows s k r older = go (begins s k r) (ends s k r) (standsSince s k older) (st
     go false false (suc a) h = rw eqb·suc-zero (ap (λ (x : ℕ). record { start = suc a; magnitude = x }) (sym (goes-on k r older (suc a) (omega arith) h)))
 
 pub ended-follows : (s : Settings) (k : Kind) (r : ℕ) (older : List ℕ) →
-    endedAt (kindNumber k) (suc (length older)) (standingOf s k older) (standingOf s k (r ∷ older)) ≡ thresholdDue s k (r ∷ older)
+    listOf (endedAt (kindNumber k) (suc (length older)) (standingOf s k older) (standingOf s k (r ∷ older))) ≡ thresholdDue s k (r ∷ older)
 ended-follows s k r older = go (standsSince s k older) (standsSince s k (r ∷ older) ≡ᵇ 0)
   where
     made : ℕ → ℕ → Event
     made a x = record { kind = kindNumber k; start = a; duration = suc (length older) - a; first = x; second = 0 }
 
-    go : (a : ℕ) (z : Bool) → (if 0 <ᵇ a && z then made a (magnitudeSince k a older) ∷ [] else []) ≡ (if 0 <ᵇ a && z then made a (magnitude k (since a older)) ∷ [] else [])
+    go : (a : ℕ) (z : Bool) → listOf (if 0 <ᵇ a && z then Over (made a (magnitudeSince k a older)) else Nothing)
+        ≡ (if 0 <ᵇ a && z then made a (magnitude k (since a older)) ∷ [] else [])
     go zero z = refl
-    go (suc a) z = refl
+    go (suc a) z = listed (0 <ᵇ suc a && z) (made (suc a) (magnitude k (since (suc a) older)))
+      where
+        listed : (b : Bool) (e : Event) → listOf (if b then Over e else Nothing) ≡ (if b then e ∷ [] else [])
+        listed true e = refl
+        listed false e = refl

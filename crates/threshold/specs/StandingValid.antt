@@ -4,17 +4,11 @@ use mathlib.Core.Bool.{Bool, true, false}
 use Prim.Native.Nat.{ℕ, suc, _≤_}
 use native.Mathlib.Omega.{arith}
 use borrow.Author.Tests.{eqb-false}
-use Rattle.settings.specs.Notation.{_≡ᵇ_, if_then_else_}
+use Rattle.numbers.specs.Notation.{_≡ᵇ_, if_then_else_}
 use Rattle.reading.specs.declared.Kind.{Kind}
 use Rattle.reading.specs.declared.Kind.the-variants.{Dip, Swell, Interruption}
 use Rattle.threshold.specs.declared.Standing.{Standing}
-use Rattle.threshold.specs.Standing.{worse, worsened, noEvent, stepped}
-
--- after v values
-pub record ValidStanding (v : ℕ) (p : Standing) : Type 0 where
-  pub start-le : p .start ≤ v
-  pub magnitude-le : p .magnitude ≤ 524288
-  pub none-zero : p .start ≡ 0 → p .magnitude ≡ 0
+use Rattle.threshold.specs.Standing.{worse, worsened, noEvent, stepped, ValidStanding}
 
 pub noEvent-valid : (v : ℕ) → ValidStanding v noEvent
 noEvent-valid v = record { start-le = omega arith; magnitude-le = omega arith; none-zero = λ e. refl }

@@ -3,9 +3,8 @@ use reading::Event;
 use reading::Kind;
 use settings::Threshold;
 ghost use mathlib.Core.Path.{_≡_};
-ghost use mathlib.Core.List.{[]};
 ghost use Prim.Native.Nat.{_*_, _≤_, min, max};
-ghost use Rattle.threshold.specs.Standing.{beginsAt, endsAt, worse, noEvent, worsened, stepped, listOf, endedAt};
+ghost use Rattle.threshold.specs.Standing.{beginsAt, endsAt, worse, noEvent, worsened, stepped, endedAt};
 
 // What is kept of an event: its start, and its magnitude so far. 0 and 0 where none stands.
 pub struct Standing {
@@ -13,29 +12,14 @@ pub struct Standing {
     pub magnitude: u64,
 }
 
-// An event that is over, or none.
-pub struct Ended {
-    pub over: bool,
-    pub event: Event,
-}
-
-impl Ended {
-    pub fn none() -> Ended
-        ensures { λ r. ⌜ listOf r ≡ [] ⌝ }
-    {
-        let event = Event {
-            kind: 0,
-            start: 0,
-            duration: 0,
-            first: 0,
-            second: 0,
-        };
-        Ended { over: false, event }
-    }
+// The event that is over with a value, if one is.
+pub enum Ended {
+    Nothing,
+    Over(Event),
 }
 
 // Whether a value is beyond the level at which an event begins. Values and levels are compared in 10,000ths.
-pub fn begins(kind: Kind, level: Threshold, value: u64) -> bool
+fn begins(kind: Kind, level: Threshold, value: u64) -> bool
     requires { ⌜ value ≤ 524288 ⌝ }
     ensures { λ b. ⌜ b ≡ beginsAt kind level value ⌝ }
 {
@@ -47,7 +31,7 @@ pub fn begins(kind: Kind, level: Threshold, value: u64) -> bool
 }
 
 // Whether a value is back at the level at which an event ends.
-pub fn ends(kind: Kind, level: Threshold, value: u64) -> bool
+fn ends(kind: Kind, level: Threshold, value: u64) -> bool
     requires { ⌜ value ≤ 524288 ⌝ }
     ensures { λ b. ⌜ b ≡ endsAt kind level value ⌝ }
 {
@@ -102,10 +86,11 @@ impl Standing {
     }
 
     // After value i, which begins the event, ends it, or leaves it as it was.
-    pub fn step(self, kind: Kind, i: u64, value: u64, begins: bool, ends: bool) -> Standing
-        ensures { λ r. ⌜ r ≡ stepped kind i value begins ends self ⌝ }
+    pub fn step(self, kind: Kind, level: Threshold, i: u64, value: u64) -> Standing
+        requires { ⌜ value ≤ 524288 ⌝ }
+        ensures { λ r. ⌜ r ≡ stepped kind i value (beginsAt kind level value) (endsAt kind level value) self ⌝ }
     {
-        if begins {
+        if begins(kind, level, value) {
             if self.start == 0 {
                 return Standing {
                     start: i,
@@ -114,7 +99,7 @@ impl Standing {
             }
             return self.with_value(kind, value);
         }
-        if ends {
+        if ends(kind, level, value) {
             return Standing::none();
         }
         if self.start == 0 {
@@ -125,20 +110,18 @@ impl Standing {
 
     // The event that stood before value i and, as `after` says, stands no longer after it.
     pub fn ended(self, code: u8, i: u64, after: Standing) -> Ended
-        requires { ⌜ self .start ≤ i ⌝ }
-        ensures { λ r. ⌜ listOf r ≡ endedAt code i self after ⌝ }
+        ensures { λ r. ⌜ r ≡ endedAt code i self after ⌝ }
     {
-        let event = Event {
-            kind: code,
-            start: self.start,
-            duration: i - self.start,
-            first: self.magnitude,
-            second: 0,
-        };
-        if self.start == 0 {
-            return Ended { over: false, event };
+        if (0 < self.start) & (after.start == 0) {
+            let event = Event {
+                kind: code,
+                start: self.start,
+                duration: numbers::minus(i, self.start),
+                first: self.magnitude,
+                second: 0,
+            };
+            return Ended::Over(event);
         }
-        let over = after.start == 0;
-        Ended { over, event }
+        Ended::Nothing
     }
 }

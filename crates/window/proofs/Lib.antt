@@ -1,4 +1,2 @@
-pub mod Loops
-pub mod Ways
-pub mod Turning
-pub mod Rewinding
+pub mod Shift
+pub mod OneMore

@@ -4,7 +4,3 @@ pub mod WindowFollows
 pub mod WindowValid
 pub mod Range
 pub mod RangeLaws
-pub mod Bounds
-pub mod BoundsLaws
-pub mod Slide
-pub mod SlideLaws

@@ -2,7 +2,7 @@
 use mathlib.Core.Bool.{Bool, _&&_}
 use mathlib.Core.List.{List}
 use Prim.Native.Nat.{ℕ, _+_, _-_, _/_}
-use Rattle.settings.specs.Notation.{_≤ᵇ_, all}
+use Rattle.numbers.specs.Notation.{_≤ᵇ_, all}
 
 abbrev pub lowest : ℕ → ℕ → ℕ → ℕ
 lowest n a q = (a - q + (n - 1)) / n

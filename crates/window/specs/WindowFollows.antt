@@ -7,8 +7,8 @@ use native.Mathlib.Omega.{arith}
 use lib.ListN.{length, take, drop, set, replicate, getD, length-reverse, length-take}
 use lib.Seq.{take-all, take-suc, take-at, drop-at, set-at, getD-at, take-nil}
 use borrow.Author.Tests.{ltb-true, ltb-false}
+use Rattle.numbers.specs.Notation.{_<ᵇ_, if_then_else_, all}
 use Rattle.settings.specs.declared.Settings.{Settings}
-use Rattle.settings.specs.Notation.{_<ᵇ_, if_then_else_, all}
 use Rattle.settings.specs.Settings.{windowLength}
 use Rattle.reading.specs.Changes.{sum, windowSum, within, calm}
 use Rattle.window.specs.Window.{pushed, windowOf}
@@ -87,7 +87,8 @@ module _ (s : Settings) where
   calm-windowOf t hist full =
       let n : ℕ = windowLength s in
       let limit : ℕ = t * n * s .declared in
-      (λ i. all (within n (windowSum-windowOf hist full i) limit) (take-windowOf n hist full i)) ∙ all-reverse (within n (windowSum s hist) limit) (take n hist)
+      (λ i. all (within n (windowSum-windowOf hist full i) limit) (take-windowOf n hist full i))
+      ∙ all-reverse (within n (windowSum s hist) limit) (take n hist)
 
 -- its two ends
 pub oldest-is : (n : ℕ) (hist : List ℕ) → 0 < n → n ≤ length hist → getD (windowOf n hist) 0 0 ≡ getD hist (n - 1) 0

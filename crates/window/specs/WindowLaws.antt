@@ -7,7 +7,7 @@ use native.Mathlib.Omega.{arith}
 use lib.ListN.{length, take, drop, set, getD, length-drop}
 use lib.Seq.{length-take-le, take-append-add, take-suc-set}
 use borrow.Author.Tests.{le-ltb, ltb-true}
-use Rattle.settings.specs.Notation.{_<ᵇ_, if_then_else_, all}
+use Rattle.numbers.specs.Notation.{_<ᵇ_, if_then_else_, all}
 use Rattle.reading.specs.Changes.{sum}
 use Rattle.window.specs.Window.{pushed, staying, leaving}
 

@@ -7,21 +7,11 @@ use native.Mathlib.Omega.{arith}
 use lib.ListN.{length, take, drop, set, replicate, getD, take-append-drop, length-append, length-drop, length-set, length-replicate}
 use lib.Seq.{getD-set-other, getD-append-add, getD-drop, length-take-le}
 use borrow.Author.Tests.{ltb-true, ltb-false}
-use Rattle.settings.specs.Notation.{_<ᵇ_, if_then_else_}
+use Rattle.numbers.specs.Notation.{_<ᵇ_, if_then_else_}
 use Rattle.reading.specs.Changes.{sum}
-use Rattle.window.specs.Window.{pushed, leaving, windowOf}
+use Rattle.window.specs.Window.{pushed, leaving, windowOf, Small, ValidWindow}
 use Rattle.window.specs.WindowLaws.{sum-append}
 use Rattle.window.specs.WindowFollows.{windowOf-none, window-follows}
-
--- no value is above 524,288
-abbrev pub Small : List ℕ → Type 0
-Small l = (i : ℕ) → getD l i 0 ≤ 524288
-
--- the window of n after v values: 120 places, values that are small, and 0 in each place that is not used
-pub record ValidWindow (n v : ℕ) (w : List ℕ) : Type 0 where
-  pub size : length w ≡ 120
-  pub most : (i : ℕ) → getD w i 0 ≤ 524288
-  pub unused : (i : ℕ) → min v n ≤ i → getD w i 0 ≡ 0
 
 -- parts of small lists are small
 small-append : (xs ys : List ℕ) → Small xs → Small ys → Small (xs ++ ys)
@@ -29,7 +19,7 @@ small-append [] ys p q i = q i
 small-append (x ∷ xs) ys p q zero = p zero
 small-append (x ∷ xs) ys p q (suc i) = small-append xs ys (λ j. p (suc j)) q i
 
-pub small-take : (n : ℕ) (l : List ℕ) → Small l → Small (take n l)
+small-take : (n : ℕ) (l : List ℕ) → Small l → Small (take n l)
 small-take zero l p i = omega arith
 small-take (suc n) [] p i = omega arith
 small-take (suc n) (x ∷ l) p zero = p zero
@@ -42,7 +32,7 @@ small-cons : (r : ℕ) (l : List ℕ) → r ≤ 524288 → Small l → Small (r 
 small-cons r l h p zero = h
 small-cons r l h p (suc i) = p i
 
-pub small-set : (l : List ℕ) (h r : ℕ) → Small l → r ≤ 524288 → Small (set l h r)
+small-set : (l : List ℕ) (h r : ℕ) → Small l → r ≤ 524288 → Small (set l h r)
 small-set [] h r p q i = p i
 small-set (x ∷ l) zero r p q zero = q
 small-set (x ∷ l) zero r p q (suc i) = p (suc i)
@@ -97,7 +87,7 @@ pushed-valid (suc m) v r w some fits small valid = go (v <ᵇ suc m) refl
     go false e = full-valid m v r w fits (ltb-false v (suc m) e) small valid
 
 -- what a history leaves is valid
-pub zeros : (n i : ℕ) → getD {A = ℕ} (replicate n 0) i 0 ≡ 0
+zeros : (n i : ℕ) → getD {A = ℕ} (replicate n 0) i 0 ≡ 0
 zeros zero i = refl
 zeros (suc n) zero = refl
 zeros (suc n) (suc i) = zeros n i
@@ -112,7 +102,7 @@ windowOf-valid n (r ∷ older) some fits small =
     (pushed-valid n (length older) r (windowOf n older) some fits (small 0) (windowOf-valid n older some fits (λ i. small (suc i))))
 
 -- the sum of the window, and of all places
-pub sum-small : (l : List ℕ) → Small l → sum l ≤ length l * 524288
+sum-small : (l : List ℕ) → Small l → sum l ≤ length l * 524288
 sum-small [] p = omega arith
 sum-small (x ∷ l) p = omega (arith, p zero, sum-small l (λ j. p (suc j)))
 
@@ -126,7 +116,7 @@ sum-zeros : (l : List ℕ) → ((i : ℕ) → getD l i 0 ≡ 0) → sum l ≡ 0
 sum-zeros [] p = refl
 sum-zeros (x ∷ l) p = omega (arith, p zero, sum-zeros l (λ j. p (suc j)))
 
-pub sum-split : (n : ℕ) (l : List ℕ) → sum l ≡ sum (take n l) + sum (drop n l)
+sum-split : (n : ℕ) (l : List ℕ) → sum l ≡ sum (take n l) + sum (drop n l)
 sum-split n l = ap sum (sym (take-append-drop n l)) ∙ sum-append (take n l) (drop n l)
 
 pub sum-all : (n v : ℕ) (w : List ℕ) → ValidWindow n v w → sum (take n w) ≡ sum w
@@ -135,7 +125,7 @@ sum-all n v w valid =
     omega (arith, sum-split n w)
 
 -- the sum from value to value: the new value comes, and the one that leaves goes
-pub sum-set : (w : List ℕ) (i r : ℕ) → i < length w → sum (set w i r) + getD w i 0 ≡ sum w + r
+sum-set : (w : List ℕ) (i r : ℕ) → i < length w → sum (set w i r) + getD w i 0 ≡ sum w + r
 sum-set [] i r h = absurd (omega arith)
 sum-set (x ∷ w) zero r h = omega arith
 sum-set (x ∷ w) (suc i) r h = omega (arith, sum-set w i r (omega arith))

@@ -1,4 +1,4 @@
-//! Speed of begin and advance: the fast logger and, with the feature, the proved library.
+//! Speed of begin and advance: the logger and, with the feature, the proved library.
 //!
 //! bench [ROUNDS]
 //!

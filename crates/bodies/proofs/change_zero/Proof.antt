@@ -3,8 +3,8 @@ use mathlib.Core.Path.{_≡_, refl, sym, _∙_}
 use mathlib.Core.Bool.{Bool, true, false, _&&_}
 use mathlib.Core.List.{[], _∷_}
 use borrow.Author.Tests.{eq-eqb, ne-eqb}
-use Rattle.settings.specs.Notation.{_≡ᵇ_, all}
-use Rattle.settings.specs.NotationLaws.{and-fails, and-passes}
+use Rattle.numbers.specs.Notation.{_≡ᵇ_, all}
+use Rattle.numbers.specs.NotationLaws.{and-fails, and-passes}
 use Rattle.rvc.specs.declared.Change.{Change}
 use Rattle.bodies.proofs.change_zero.Statement.{statement}
 use Rattle.bodies.proofs.change_zero.Tie as tie

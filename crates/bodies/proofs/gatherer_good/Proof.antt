@@ -4,8 +4,8 @@ use mathlib.Core.Bool.{Bool, _&&_}
 use Prim.Native.Nat.{_*_, _^_}
 use borrow.Author.Needs.{needs}
 use borrow.Author.Tests.{lt-ltb, le-ltb, le-leb, lt-leb, eq-eqb, ne-eqb}
-use Rattle.settings.specs.Notation.{_≤ᵇ_, _≡ᵇ_}
-use Rattle.settings.specs.NotationLaws.{and-fails, and-passes}
+use Rattle.numbers.specs.Notation.{_≤ᵇ_, _≡ᵇ_}
+use Rattle.numbers.specs.NotationLaws.{and-fails, and-passes}
 use Rattle.reading.specs.Restore.{implies}
 use Rattle.bodies.specs.Bodies.{gathererTest}
 use Rattle.bodies.proofs.Rules.{condition-holds, condition-fails}

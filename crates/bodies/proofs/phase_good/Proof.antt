@@ -5,8 +5,8 @@ use mathlib.Core.List.{[], _∷_}
 use native.Mathlib.Omega.{arith}
 use borrow.Author.Needs.{needs}
 use borrow.Author.Tests.{lt-ltb, le-ltb, le-leb, lt-leb, eq-eqb, ne-eqb}
-use Rattle.settings.specs.Notation.{_<ᵇ_, _≡ᵇ_, if_then_else_, all}
-use Rattle.settings.specs.NotationLaws.{and-fails, and-passes}
+use Rattle.numbers.specs.Notation.{_<ᵇ_, _≡ᵇ_, if_then_else_, all}
+use Rattle.numbers.specs.NotationLaws.{and-fails, and-passes}
 use Rattle.bodies.specs.Bodies.{changeTest, phaseTest}
 use Rattle.bodies.proofs.phase_good.Statement.{statement}
 use Rattle.bodies.proofs.phase_good.Tie as tie

@@ -11,8 +11,8 @@ use Rattle.octets.specs.Bytes.{Bytes, numberAt, wordsAt}
 use Rattle.octets.specs.BytesLaws.{Words, bytes-by, wordsAt-lt}
 use Rattle.settings.specs.declared.Settings.{Settings}
 use Rattle.settings.specs.Settings.{windowLength}
-use Rattle.settings.specs.Notation.{_≤ᵇ_, _<ᵇ_, _≡ᵇ_}
-use Rattle.settings.specs.NotationLaws.{and-fails, and-passes}
+use Rattle.numbers.specs.Notation.{_≤ᵇ_, _<ᵇ_, _≡ᵇ_}
+use Rattle.numbers.specs.NotationLaws.{and-fails, and-passes}
 use Rattle.reading.specs.Restore.{eventsGood, changeGood, standingGood}
 use Rattle.threshold.specs.declared.Standing.{Standing}
 use Rattle.rvc.specs.declared.Change.{Change}

@@ -6,7 +6,7 @@ use Prim.Native.Nat.{ℕ}
 use borrow.Author.Needs.{needs}
 use Rattle.octets.specs.Bytes.{numberAt}
 use Rattle.settings.specs.declared.Settings.{Settings}
-use Rattle.settings.specs.Notation.{_≡ᵇ_}
+use Rattle.numbers.specs.Notation.{_≡ᵇ_}
 use Rattle.reading.specs.Restore.{gathererGood}
 use Rattle.rms.specs.declared.Gatherer.{Gatherer}
 use Rattle.bodies.specs.Bodies.{gathererAt, gathererTest, gathererReadBy, gathererAnswer}

@@ -1,26 +1,19 @@
 -- `check::same` tells whether the bytes are the constant's, which is the table; so its answer is the reading's test.
-use mathlib.Core.Path.{_≡_, refl, sym, _∙_, ap, ap₂}
+use mathlib.Core.Path.{_≡_, refl, sym, _∙_, ap}
 use mathlib.Core.Bool.{Bool, true, false}
 use mathlib.Core.List.{List, [], _∷_}
 use Prim.Native.Nat.{ℕ}
-use native.Mathlib.Omega.{arith}
 use borrow.Author.Needs.{needs}
-use borrow.Author.Tests.{eq-eqb, eqb-true}
-use Rattle.settings.specs.Notation.{_≡ᵇ_}
-use Rattle.settings.specs.NotationLaws.{and-true, and-left, and-right}
+use borrow.Author.Tests.{eq-eqb}
+use Rattle.numbers.specs.NotationLaws.{and-true}
 use Rattle.reading.specs.Image.{table}
 use Rattle.reading.specs.Restore.{sameBytes}
 use Rattle.bodies.specs.Bodies.{verdictOf, tableAnswer}
+use Rattle.bodies.specs.BodiesFacts.{same-equal}
 use Rattle.bodies.proofs.read_table.Statement.{statement}
 use Rattle.bodies.proofs.read_table.Tie as tie
 
--- the reading's test holds of equal bytes only, and of all that are equal
-same-equal : (xs ys : List ℕ) → sameBytes xs ys ≡ true → xs ≡ ys
-same-equal [] [] e = refl
-same-equal [] (y ∷ ys) e = let z : _≡_ {A = ℕ} 0 1 = cc in absurd (omega arith)
-same-equal (x ∷ xs) [] e = let z : _≡_ {A = ℕ} 0 1 = cc in absurd (omega arith)
-same-equal (x ∷ xs) (y ∷ ys) e = ap₂ _∷_ (eqb-true x y (and-left (x ≡ᵇ y) (sameBytes xs ys) e)) (same-equal xs ys (and-right (x ≡ᵇ y) (sameBytes xs ys) e))
-
+-- the reading's test holds of bytes that are equal
 same-itself : (xs : List ℕ) → sameBytes xs xs ≡ true
 same-itself [] = refl
 same-itself (x ∷ xs) = and-true (eq-eqb x x refl) (same-itself xs)

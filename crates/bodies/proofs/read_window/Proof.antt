@@ -10,7 +10,7 @@ use Rattle.octets.specs.Bytes.{numberAt, wordsAt}
 use Rattle.octets.specs.Parts.{wordsAt-part}
 use Rattle.settings.specs.declared.Settings.{Settings}
 use Rattle.settings.specs.Settings.{windowLength}
-use Rattle.settings.specs.Notation.{_≤ᵇ_, _≡ᵇ_, all}
+use Rattle.numbers.specs.Notation.{_≤ᵇ_, _≡ᵇ_, all}
 use Rattle.reading.specs.Restore.{valuesGood}
 use Rattle.bodies.specs.declared.WindowRead.{WindowRead}
 use Rattle.bodies.specs.Bodies.{verdictOf, windowAnswer}

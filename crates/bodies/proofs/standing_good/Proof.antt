@@ -2,8 +2,8 @@
 use mathlib.Core.Path.{_≡_, sym, _∙_}
 use mathlib.Core.Bool.{Bool, _&&_}
 use borrow.Author.Tests.{le-leb, lt-leb, eq-eqb, ne-eqb}
-use Rattle.settings.specs.Notation.{_≤ᵇ_, _≡ᵇ_}
-use Rattle.settings.specs.NotationLaws.{and-fails, and-passes}
+use Rattle.numbers.specs.Notation.{_≤ᵇ_, _≡ᵇ_}
+use Rattle.numbers.specs.NotationLaws.{and-fails, and-passes}
 use Rattle.reading.specs.Restore.{implies}
 use Rattle.bodies.specs.Bodies.{standingTest}
 use Rattle.bodies.proofs.Rules.{condition-holds, condition-fails}

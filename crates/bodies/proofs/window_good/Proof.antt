@@ -5,8 +5,8 @@ use native.Mathlib.Omega.{arith}
 use lib.ListN.{length, drop, length-drop, take}
 use lib.Seq.{take-all}
 use borrow.Author.Needs.{needs}
-use Rattle.settings.specs.Notation.{_≤ᵇ_, _≡ᵇ_, all}
-use Rattle.settings.specs.NotationLaws.{and-fails, and-passes}
+use Rattle.numbers.specs.Notation.{_≤ᵇ_, _≡ᵇ_, all}
+use Rattle.numbers.specs.NotationLaws.{and-fails, and-passes}
 use Rattle.bodies.proofs.Rules.{passed, failed, up-to-zero}
 use Rattle.bodies.proofs.window_good.Statement.{statement}
 use Rattle.bodies.proofs.window_good.Tie as tie

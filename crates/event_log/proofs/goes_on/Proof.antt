@@ -1,7 +1,7 @@
 -- The first test leaves the second to decide, or decides.
 use mathlib.Core.Path.{sym, _∙_}
 use borrow.Author.Tests.{eq-eqb, ne-eqb}
-use Rattle.settings.specs.NotationLaws.{and-fails, and-passes}
+use Rattle.numbers.specs.NotationLaws.{and-fails, and-passes}
 use Rattle.event_log.proofs.goes_on.Statement.{statement}
 use Rattle.event_log.proofs.goes_on.Tie as tie
 

@@ -1,22 +1,20 @@
--- The invariant: the logger is valid, and the arrays keep their lengths. The measure: the values that are left to V's end while there is more, for each whole
--- chunk that is taken gives one.
+-- The invariant: the logger is valid, and the bytes keep their length. The measure: the samples that are left to V's end while there is more, for a whole chunk
+-- that is taken lowers them.
 use mathlib.Core.Path.{_≡_, sym, subst⁻¹}
 use mathlib.Core.Bool.{Bool}
 use Prim.Native.Nat.{_<_}
 use lib.ListN.{length}
-use lib.Seq.{length-take-le}
 use borrow.Author.Needs.{needs}
-use Rattle.image.specs.ImageValid.{ValidState}
-use Rattle.event_log.specs.Chunk.{valuesLeft, chunk-ends}
+use Rattle.state.specs.State.{ValidState}
+use Rattle.event_log.specs.TakenLaws.{leftWhile, chunks-end}
 use Rattle.event_log.proofs.log.Statement.{statement}
 use Rattle.event_log.proofs.log.Tie as tie
 
 abbrev Inv-loop : tie.InvT-loop
-Inv-loop logger₀ bytes₀ records₀ text₀ more₀ t12 logger bytes records text more =
-    ValidState (logger .state) × (length bytes ≡ 2048) × (length records ≡ 12720) × (length text ≡ 61692)
+Inv-loop logger₀ bytes₀ more₀ t9 logger bytes more = ValidState (logger .state) × (length bytes ≡ 2048)
 
 abbrev μ-loop : tie.MeasureT-loop
-μ-loop logger₀ bytes₀ records₀ text₀ more₀ t12 logger bytes records text more = valuesLeft more (logger .state)
+μ-loop logger₀ bytes₀ more₀ t9 logger bytes more = leftWhile more (logger .state)
 
 slice-aggregate-write-all : tie.Need-slice-aggregate-write-all Inv-loop μ-loop
 slice-aggregate-write-all c = search needs
@@ -42,41 +40,20 @@ array-share-prefix-bytes c = search needs
 slice-aggregate-feed-chunk : tie.Need-slice-aggregate-feed-chunk Inv-loop μ-loop
 slice-aggregate-feed-chunk c = search needs
 
-slice-aggregate-feed-chunk-2 : tie.Need-slice-aggregate-feed-chunk-2 Inv-loop μ-loop
-slice-aggregate-feed-chunk-2 c = search needs
-
 feed-chunk-requires : tie.Need-feed-chunk-requires Inv-loop μ-loop
 feed-chunk-requires c κs = search needs
-
-slice-aggregate-put-lines : tie.Need-slice-aggregate-put-lines Inv-loop μ-loop
-slice-aggregate-put-lines c = search needs
-
-slice-aggregate-put-lines-2 : tie.Need-slice-aggregate-put-lines-2 Inv-loop μ-loop
-slice-aggregate-put-lines-2 c = search needs
-
-put-lines-requires : tie.Need-put-lines-requires Inv-loop μ-loop
-put-lines-requires c κs = search needs
-
-array-share-prefix-text : tie.Need-array-share-prefix-text Inv-loop μ-loop
-array-share-prefix-text c = search needs
-
-slice-aggregate-write-all-2 : tie.Need-slice-aggregate-write-all-2 Inv-loop μ-loop
-slice-aggregate-write-all-2 c = sym (length-take-le _ _ (search needs))
-
-write-all-requires-2 : tie.Need-write-all-requires-2 Inv-loop μ-loop
-write-all-requires-2 c κs = search needs
 
 goes-on-requires : tie.Need-goes-on-requires Inv-loop μ-loop
 goes-on-requires c κs = search needs
 
 loop-less : tie.Need-loop-less Inv-loop μ-loop
 loop-less c =
-    let call = c .before .before .before .before .before .before .before .before .before in
-    let read = call .before .before .before .before .read-full in
-    let test = call .before .before .before .before .before .before in
+    let call = c .before .before in
+    let read = call .before .before .before .read-full in
+    let test = call .before .before .before .before .before in
     let loop = test .before .loop in
-    subst⁻¹ (λ (more : Bool). valuesLeft (c .goes-on .result) (call .feed-chunk .result .logger .state) < valuesLeft more (loop .logger .state)) (test .loop-test .taken)
-    (chunk-ends _ _ _ _ _ _ _ _ _ _ (loop .inv .0) (sym (read .ensures .1)) (call .feed-chunk .ensures .0) (c .goes-on .ensures))
+    subst⁻¹ (λ (more : Bool). leftWhile (c .goes-on .result) (call .feed-chunk .result .logger .state) < leftWhile more (loop .logger .state)) (test .loop-test .taken)
+    (chunks-end _ _ _ _ _ (loop .inv .0) (sym (read .ensures .1)) (call .feed-chunk .ensures .0) (c .goes-on .ensures))
 
 loop-again : tie.Need-loop-again Inv-loop μ-loop
 loop-again c = search needs
@@ -107,14 +84,7 @@ log-spec =
     read-full-requires
     array-share-prefix-bytes
     slice-aggregate-feed-chunk
-    slice-aggregate-feed-chunk-2
     feed-chunk-requires
-    slice-aggregate-put-lines
-    slice-aggregate-put-lines-2
-    put-lines-requires
-    array-share-prefix-text
-    slice-aggregate-write-all-2
-    write-all-requires-2
     goes-on-requires
     loop-less
     loop-again

@@ -1,6 +1,6 @@
--- Restore's answer, then the tests in 01's order; each way out is a law of Ways.
+-- Restore's answer, then the tests in 01's order; each way out is a law of Answers.
 use borrow.Author.Needs.{needs}
-use Rattle.host.proofs.Ways.{image-refused, odd-refused, next-refused, reply-refused, all-done}
+use Rattle.host.proofs.Answers.{image-refused, odd-refused, next-refused, reply-refused, all-done}
 use Rattle.host.proofs.pq_advance.Statement.{statement}
 use Rattle.host.proofs.pq_advance.Tie as tie
 
@@ -21,27 +21,24 @@ enum-told c = search needs
 
 returns : tie.Need-returns
 returns c =
-    let restored = c .before .before .before .before in
-    let a = restored .before .before .before .before .before .before .before .before .args in
-    let r = restored .restore in
-    odd-refused (a .image .now) (a .samples .now) (a .next .now) (a .records .now) (a .reply .now) (restored .before .start .result .state) (r .result .logger .state) (r .result .answer) (r .ensures) (c .before .enum-told .given .1) (c .if1 .taken)
+    let a = c .before .before .before .before .before .before .before .before .before .before .before .before .args in
+    let r = c .before .before .before .before .restore in
+    odd-refused (a .image .now) (a .samples .now) (a .next .now) (a .records .now) (a .reply .now) (c .before .before .before .before .before .start .result .state) (r .result .logger .state) (r .result .answer) (r .ensures .0) (c .before .enum-told .given .1) (c .if1 .taken)
 
 returns-2 : tie.Need-returns-2
 returns-2 c =
-    let restored = c .before .before .before .before .before in
-    let a = restored .before .before .before .before .before .before .before .before .args in
-    let r = restored .restore in
-    next-refused (a .image .now) (a .samples .now) (a .next .now) (a .records .now) (a .reply .now) (restored .before .start .result .state) (r .result .logger .state) (r .result .answer) (r .ensures) (c .before .before .enum-told .given .1) (c .before .if1 .left) (c .if2 .taken)
+    let a = c .before .before .before .before .before .before .before .before .before .before .before .before .before .args in
+    let r = c .before .before .before .before .before .restore in
+    next-refused (a .image .now) (a .samples .now) (a .next .now) (a .records .now) (a .reply .now) (c .before .before .before .before .before .before .start .result .state) (r .result .logger .state) (r .result .answer) (r .ensures .0) (c .before .before .enum-told .given .1) (c .before .if1 .left) (c .if2 .taken)
 
 returns-3 : tie.Need-returns-3
 returns-3 c =
-    let restored = c .before .before .before .before .before .before in
-    let a = restored .before .before .before .before .before .before .before .before .args in
-    let r = restored .restore in
-    reply-refused (a .image .now) (a .samples .now) (a .next .now) (a .records .now) (a .reply .now) (restored .before .start .result .state) (r .result .logger .state) (r .result .answer) (r .ensures) (c .before .before .before .enum-told .given .1) (c .before .before .if1 .left) (c .before .if2 .left) (c .if3 .taken)
+    let a = c .before .before .before .before .before .before .before .before .before .before .before .before .before .before .args in
+    let r = c .before .before .before .before .before .before .restore in
+    reply-refused (a .image .now) (a .samples .now) (a .next .now) (a .records .now) (a .reply .now) (c .before .before .before .before .before .before .before .start .result .state) (r .result .logger .state) (r .result .answer) (r .ensures .0) (c .before .before .before .enum-told .given .1) (c .before .before .if1 .left) (c .before .if2 .left) (c .if3 .taken)
 
-feed-bytes-requires : tie.Need-feed-bytes-requires
-feed-bytes-requires c κs = search needs
+feed-chunks-requires : tie.Need-feed-chunks-requires
+feed-chunks-requires c κs = search needs
 
 put-reply-requires : tie.Need-put-reply-requires
 put-reply-requires c κs = search needs
@@ -51,10 +48,9 @@ save-requires c κs = search needs
 
 returns-4 : tie.Need-returns-4
 returns-4 c =
-    let restored = c .before .before .before .before in
-    let a = restored .before .before .before .before .before .before .before .before .args in
-    let r = restored .restore in
-    image-refused (a .image .now) (a .samples .now) (a .next .now) (a .records .now) (a .reply .now) (restored .before .start .result .state) (r .result .logger .state) (r .result .answer) (r .ensures) _ (c .before .answer .given .1)
+    let a = c .before .before .before .before .before .before .before .before .before .before .before .before .args in
+    let r = c .before .before .before .before .restore in
+    image-refused (a .image .now) (a .samples .now) (a .next .now) (a .records .now) (a .reply .now) (c .before .before .before .before .before .start .result .state) (r .result .logger .state) (r .result .answer) (r .ensures .0) _ (c .before .answer .given .1)
 
 same-length : tie.Need-same-length
 same-length c = search needs
@@ -67,16 +63,11 @@ same-length-3 c = search needs
 
 returns-5 : tie.Need-returns-5
 returns-5 c =
-    let saved = c .before .before in
-    let told = saved .before .before .before .before in
-    let fed = told .before .before .before .before .before in
-    let tested = fed .before .before in
-    let restored = tested .before .before .before .before .before .before in
-    let a = restored .before .before .before .before .before .before .before .before .args in
-    let r = restored .restore in
-    all-done (a .image .now) (a .samples .now) (a .next .now) (a .records .now) (a .reply .now) (restored .before .start .result .state) (r .result .logger .state) (r .result .answer) (r .ensures) (tested .before .before .before .enum-told .given .1) (tested .before .before .if1 .left) (tested .before .if2 .left) (tested .if3 .left)
-    (fed .feed-bytes .result .logger .state) (fed .feed-bytes .result .taken) (fed .feed-bytes .result .written) (fed .feed-bytes .result .why)
-    _ _ _ _ (fed .feed-bytes .ensures) (told .put-reply .ensures) (saved .save .ensures)
+    let a = c .before .before .before .before .before .before .before .before .before .before .before .before .before .before .before .before .before .before .before .before .before .before .before .before .before .before .before .before .args in
+    let r = c .before .before .before .before .before .before .before .before .before .before .before .before .before .before .before .before .before .before .before .before .restore in
+    let fed = c .before .before .before .before .before .before .before .before .before .before .before .before .feed-chunks in
+    all-done (a .image .now) (a .samples .now) (a .next .now) (a .records .now) (a .reply .now) (c .before .before .before .before .before .before .before .before .before .before .before .before .before .before .before .before .before .before .before .before .before .start .result .state) (r .result .logger .state) (r .result .answer) (r .ensures .0) (c .before .before .before .before .before .before .before .before .before .before .before .before .before .before .before .before .before .enum-told .given .1) (c .before .before .before .before .before .before .before .before .before .before .before .before .before .before .before .before .if1 .left) (c .before .before .before .before .before .before .before .before .before .before .before .before .before .before .before .if2 .left) (c .before .before .before .before .before .before .before .before .before .before .before .before .before .before .if3 .left)
+    (fed .result .logger .state) (fed .result .told) _ _ _ _ (fed .ensures) (c .before .before .before .before .before .before .put-reply .ensures) (c .before .before .save .ensures)
 
 pub pq-advance-spec : {M : Type 1} → statement M
 pq-advance-spec =
@@ -90,7 +81,7 @@ pq-advance-spec =
     returns
     returns-2
     returns-3
-    feed-bytes-requires
+    feed-chunks-requires
     put-reply-requires
     save-requires
     returns-4

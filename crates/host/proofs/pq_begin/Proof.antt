@@ -8,9 +8,9 @@ use Rattle.settings.specs.declared.SettingsRead.{SettingsRead}
 use Rattle.settings.specs.declared.SettingsRead.the-variants.{Read, Refused}
 use Rattle.settings.specs.Settings.{settingsRead}
 use Rattle.settings.specs.SettingsLaws.{read-accepted}
-use Rattle.image.specs.declared.State.{State}
+use Rattle.state.specs.declared.State.{State}
 use Rattle.image.specs.Image.{savedBytes}
-use Rattle.host.specs.Host.{begunBy, begun}
+use Rattle.host.specs.Host.{begunTo, begunBy, begun}
 use Rattle.host.proofs.pq_begin.Statement.{statement}
 use Rattle.host.proofs.pq_begin.Tie as tie
 
@@ -44,10 +44,9 @@ returns c =
     let lent : List ℕ = start .args .image .now in
     let s : Settings = told .read .given .0 .0 in
     let is : Read s ≡ settingsRead b = sym (sym (call .from-bytes .ensures) ∙ told .read .given .1) in
-    let saved = c .before .before .save in (
-      saved .ensures .0 ∙ ap (λ (r : SettingsRead). begunBy r lent .number) is,
-      saved .ensures .1 ∙ ap (λ (st : State). savedBytes st lent) (c .before .before .before .before .start .ensures .0) ∙ ap (λ (r : SettingsRead). begunBy r lent .image) is,
-    )
+    let saved = c .before .before .save in
+    let bytes = saved .ensures .1 ∙ ap (λ (st : State). savedBytes st lent) (c .before .before .before .before .start .ensures .0) in
+    (λ i. begunTo (saved .ensures .0 i) (bytes i)) ∙ ap (λ (r : SettingsRead). begunBy r lent) is
 
 returns-2 : tie.Need-returns-2
 unfolding begun
@@ -59,7 +58,7 @@ returns-2 c =
     let lent : List ℕ = start .args .image .now in
     let n : ℕ = told .number .given .0 .0 in
     let is : Refused n ≡ settingsRead b = sym (sym (call .from-bytes .ensures) ∙ told .number .given .1) in
-    (ap (λ (r : SettingsRead). begunBy r lent .number) is, ap (λ (r : SettingsRead). begunBy r lent .image) is)
+    ap (λ (r : SettingsRead). begunBy r lent) is
 
 pub pq-begin-spec : {M : Type 1} → statement M
 pq-begin-spec =

@@ -1,6 +1,6 @@
 -- Three numbers of 8 bytes, one behind the other.
 use borrow.Author.Needs.{needs}
-use Rattle.host.proofs.Ways.{reply-is}
+use Rattle.host.proofs.Answers.{reply-is}
 use Rattle.host.proofs.put_reply.Statement.{statement}
 use Rattle.host.proofs.put_reply.Tie as tie
 
@@ -37,6 +37,9 @@ part-put-u64-start-3 c = search needs
 part-put-u64-end-3 : tie.Need-part-put-u64-end-3
 part-put-u64-end-3 c = search needs
 
+cast-put-u64 : tie.Need-cast-put-u64
+cast-put-u64 c = search needs
+
 put-u64-requires-3 : tie.Need-put-u64-requires-3
 put-u64-requires-3 c κs = search needs
 
@@ -45,11 +48,8 @@ same-length c = search needs
 
 returns : tie.Need-returns
 returns c =
-    let third = c .before .before in
-    let second = third .before .before .before .before in
-    let first = second .before .before .before .before in
-    let a = first .before .before .before .args in
-    reply-is (a .taken) (a .written) (a .why) (a .reply .now) _ _ _ (first .put-u64 .ensures) (second .put-u642 .ensures) (third .put-u643 .ensures)
+    let a = c .before .before .before .before .before .before .before .before .before .before .before .before .before .before .args in
+    reply-is (a .told) (a .reply .now) _ _ _ (c .before .before .before .before .before .before .before .before .before .before .before .put-u64 .ensures) (c .before .before .before .before .before .before .before .put-u642 .ensures) (c .before .before .put-u643 .ensures)
 
 pub put-reply-spec : {M : Type 1} → statement M
 put-reply-spec =
@@ -66,6 +66,7 @@ put-reply-spec =
     sub-put-u64-3
     part-put-u64-start-3
     part-put-u64-end-3
+    cast-put-u64
     put-u64-requires-3
     same-length
     returns)

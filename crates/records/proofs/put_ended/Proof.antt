@@ -1,18 +1,35 @@
--- `records::put_ended` meets its contract. What is listed is the one event or none, as the flag says; the lent part comes back with its record in place
--- (`putMid-placed`).
-use mathlib.Core.Path.{_≡_, ap, _∙_, sym}
+-- `records::put_ended` meets its contract: of nothing the buffer stays (`placed-none`), and of an event the lent part comes back with its record in place.
+use mathlib.Core.Path.{_≡_, ap}
 use mathlib.Core.List.{List, [], _∷_}
-use Prim.Native.Nat.{ℕ, _+_, _-_}
+use Prim.Native.Nat.{ℕ, _+_, _-_, _*_}
 use native.Mathlib.Omega.{arith}
-use lib.ListN.{length}
+use lib.ListN.{length, take-append-drop}
 use borrow.Author.Needs.{needs}
+use borrow.Rule.Slice.PartMut.{putMid}
 use Rattle.reading.specs.declared.Event.{Event}
 use Rattle.reading.specs.Records.{recordBytes}
+use Rattle.threshold.specs.declared.Ended.{Ended}
+use Rattle.threshold.specs.declared.Ended.the-variants.{Nothing, Over}
 use Rattle.threshold.specs.Standing.{listOf}
 use Rattle.records.specs.Due.{placed}
-use Rattle.records.specs.DueLaws.{placed-none, putMid-placed}
 use Rattle.records.proofs.put_ended.Statement.{statement}
 use Rattle.records.proofs.put_ended.Tie as tie
+
+module _ (at : ℕ) (ended : Ended) (b : List ℕ) where
+  placed-none : ended ≡ Nothing → (at ≡ at + 20 * length (listOf ended)) × (b ≡ placed at (recordBytes (listOf ended)) b)
+  placed-none is = rw is (omega arith, rw take-append-drop)
+
+  placed-one : (event : Event) (bytes : List ℕ) → ended ≡ Over event → bytes ≡ recordBytes (event ∷ [])
+      → (at + 20 ≡ at + 20 * length (listOf ended)) × (putMid at (at + 20 - at) b bytes ≡ placed at (recordBytes (listOf ended)) b)
+  placed-one event bytes is bytes-are =
+      let k : at + 20 - at ≡ 20 = omega arith in
+      rw is (omega arith, rw (k, bytes-are))
+
+enum-told : tie.Need-enum-told
+enum-told c = search needs
+
+enum-known-ended : tie.Need-enum-known-ended
+enum-known-ended c = search needs
 
 add-end : tie.Need-add-end
 add-end c = search needs
@@ -24,46 +41,35 @@ part-put-record-start : tie.Need-part-put-record-start
 part-put-record-start c = search needs
 
 part-put-record-end : tie.Need-part-put-record-end
-part-put-record-end c =
-    let start = c .before .before .before in
-    let a = start .args in
-    let is : listOf (a .ended) ≡ a .ended .event ∷ [] = rw (c .before .if1 .taken) in
-    omega (arith, ap length is, start .pre)
+part-put-record-end c = let start = c .before .before .before .before in omega (arith, ap (λ (e : Ended). length (listOf e)) (c .before .ended .given .1), start .pre)
 
 put-record-requires : tie.Need-put-record-requires
 put-record-requires c κs = search needs
 
+returns : tie.Need-returns
+returns c = let a = c .before .before .before .args in placed-none (a .at) (a .ended) (a .buffer .now) (c .enum-told .given .1)
+
 same-length : tie.Need-same-length
 same-length c = search needs
 
-returns : tie.Need-returns
-returns c =
-    let put = c .before .before .put-record in
-    let start = c .before .before .before .before .before .before .before in
-    let a = start .args in
-    let is : listOf (a .ended) ≡ a .ended .event ∷ [] = rw (c .before .before .before .before .before .if1 .taken) in
-    let bytes = put .last .0 in
-    let long : length bytes ≡ 20 = ap length (put .ensures) in (
-      omega (arith, ap length is),
-      putMid-placed (a .at) (a .at + 20 - a .at) bytes (a .buffer .now) (omega arith)
-          ∙ ap (λ (b : List ℕ). placed (a .at) b (a .buffer .now)) (put .ensures ∙ ap recordBytes (sym is)),
-    )
-
 returns-2 : tie.Need-returns-2
 returns-2 c =
-    let a = c .before .before .args in
-    let is : listOf (a .ended) ≡ [] = rw (c .if1 .left) in
-    (omega (arith, ap length is), placed-none (a .at) (a .buffer .now) ∙ ap (λ (es : List Event). placed (a .at) (recordBytes es) (a .buffer .now)) (sym is))
+    let put = c .before .before in
+    let told = put .before .before .before in
+    let a = told .before .before .before .args in
+    placed-one (a .at) (a .ended) (a .buffer .now) _ (put .put-record .last .0) (told .ended .given .1) (put .put-record .ensures)
 
 pub put-ended-spec : {M : Type 1} → statement M
 put-ended-spec =
     tie.close
     (tie.spec
+    enum-told
+    enum-known-ended
     add-end
     sub-put-record
     part-put-record-start
     part-put-record-end
     put-record-requires
-    same-length
     returns
+    same-length
     returns-2)

@@ -1,11 +1,14 @@
--- The measure is n: the call is at n / 4, which is less where n is not 0. The root is made of the quarter's by `odd-root` and `even-root`.
+-- The measure is n: the call is at n / 4, which is less where n is not 0. A number that passes the test is the root, and else the root is made of the
+-- quarter's by `odd-root` and `even-root`.
 use mathlib.Core.Path.{sym}
 use Prim.Native.Nat.{ℕ, _+_, _-_, _*_, _^_, _≤_, _<_}
 use native.Mathlib.Nat.{mul-le-mul}
 use native.Mathlib.Omega.{arith}
+use borrow.Author.Needs.{needs}
 use borrow.Fn.Kinds.{In}
 use borrow.Fn.PlainCycle.{Measures, is, falls, and}
-use Rattle.reading_laws.specs.Root.{odd-root, even-root, quarter-root-lt, root-zero}
+use Rattle.reading_laws.specs.Root.{odd-root, even-root, quarter-root-lt, root-zero, root-only}
+use Rattle.rms.proofs.is_root.Reads as is-root
 use Rattle.rms.proofs.root.Reads as root
 use Rattle.rms.proofs.root.Kinds as root-kinds
 use Rattle.rms.proofs.+root.Lts-root as root-lts
@@ -15,48 +18,57 @@ use Rattle.rms.proofs.+root.Tie.{close}
 abbrev μ-root : Measures 0 root-kinds.ps ℕ
 μ-root κs a = a .0
 
-abbrev root-at : ℕ → In 0 root-kinds.ps
-root-at t = and 0 root-kinds.ps (is 0 root-kinds.ps μ-root t) root.Pre
+module _ (t : ℕ) where
+  abbrev at : In 0 root-kinds.ps
+  at = and 0 root-kinds.ps (is 0 root-kinds.ps μ-root t) root.Pre
 
-abbrev root-below : ℕ → In 0 root-kinds.ps
-root-below t = and 0 root-kinds.ps (falls 0 root-kinds.ps _<_ μ-root t) root.Pre
+  abbrev below : In 0 root-kinds.ps
+  below = and 0 root-kinds.ps (falls 0 root-kinds.ps _<_ μ-root t) root.Pre
 
-root-root-requires : (t : ℕ) → root-lts.Need-root-requires (root-below t, root.Post) (root-at t) root.Post
-root-root-requires t c κs = (omega arith, tt)
+  returns : root-lts.Need-returns (is-root.Asked, is-root.Learnt, below, root.Post) at root.Post
+  returns c = rw (c .if1 .taken) (sym root-zero)
 
-root-mul-even : (t : ℕ) → root-lts.Need-mul-even (root-below t, root.Post) (root-at t) root.Post
-root-mul-even t c = let f = quarter-root-lt (c .before .before .fits .n .fits) in omega arith
+  is-root-requires : root-lts.Need-is-root-requires (is-root.Asked, is-root.Learnt, below, root.Post) at root.Post
+  is-root-requires c κs = search needs
 
-root-add-odd : (t : ℕ) → root-lts.Need-add-odd (root-below t, root.Post) (root-at t) root.Post
-root-add-odd t c = let f = quarter-root-lt (c .before .before .fits .n .fits) in omega arith
+  returns-2 : root-lts.Need-returns-2 (is-root.Asked, is-root.Learnt, below, root.Post) at root.Post
+  returns-2 c = root-only (c .before .is-root .ensures (c .if2 .taken))
 
-root-mul-if2 : (t : ℕ) → root-lts.Need-mul-if2 (root-below t, root.Post) (root-at t) root.Post
-root-mul-if2 t c =
-    let f = quarter-root-lt (c .before .before .fits .n .fits) in
-    let h : 2 * c .root .result + 1 ≤ 2 ^ 32 - 1 = omega arith in
-    omega (arith, mul-le-mul h h)
+  root-requires : root-lts.Need-root-requires (is-root.Asked, is-root.Learnt, below, root.Post) at root.Post
+  root-requires c κs = (omega arith, tt)
 
-root-returns : (t : ℕ) → root-lts.Need-returns (root-below t, root.Post) (root-at t) root.Post
-root-returns t c = rw (c .if1 .taken) (sym root-zero)
+  mul-even : root-lts.Need-mul-even (is-root.Asked, is-root.Learnt, below, root.Post) at root.Post
+  mul-even c = let f = quarter-root-lt (c .before .before .before .before .fits .n .fits) in omega arith
 
-root-returns-2 : (t : ℕ) → root-lts.Need-returns-2 (root-below t, root.Post) (root-at t) root.Post
-root-returns-2 t c = odd-root (c .before .before .before .args .n) (c .before .root .result) (c .before .root .ensures) (c .if2 .taken)
+  add-odd : root-lts.Need-add-odd (is-root.Asked, is-root.Learnt, below, root.Post) at root.Post
+  add-odd c = let f = quarter-root-lt (c .before .before .before .before .fits .n .fits) in omega arith
 
-root-returns-3 : (t : ℕ) → root-lts.Need-returns-3 (root-below t, root.Post) (root-at t) root.Post
-root-returns-3 t c = even-root (c .before .before .before .args .n) (c .before .root .result) (c .before .root .ensures) (c .if2 .left)
+  mul-if3 : root-lts.Need-mul-if3 (is-root.Asked, is-root.Learnt, below, root.Post) at root.Post
+  mul-if3 c =
+      let f = quarter-root-lt (c .before .before .before .before .fits .n .fits) in
+      let h : 2 * c .root .result + 1 ≤ 2 ^ 32 - 1 = omega arith in
+      omega (arith, mul-le-mul h h)
+
+  returns-3 : root-lts.Need-returns-3 (is-root.Asked, is-root.Learnt, below, root.Post) at root.Post
+  returns-3 c = odd-root (c .before .before .before .before .before .args .n) (c .before .root .result) (c .before .root .ensures) (c .if3 .taken)
+
+  returns-4 : root-lts.Need-returns-4 (is-root.Asked, is-root.Learnt, below, root.Post) at root.Post
+  returns-4 c = even-root (c .before .before .before .before .before .args .n) (c .before .root .result) (c .before .root .ensures) (c .if3 .left)
 
 pub +root-spec : {M : Type 1} → statement M
 +root-spec =
     close
     μ-root
     λ t. root-lts.spec
-    (root-below t, root.Post)
-    (root-at t)
+    (is-root.Asked, is-root.Learnt, below t, root.Post)
+    (at t)
     root.Post
-    (root-root-requires t)
-    (root-mul-even t)
-    (root-add-odd t)
-    (root-mul-if2 t)
-    (root-returns t)
-    (root-returns-2 t)
-    (root-returns-3 t)
+    (returns t)
+    (is-root-requires t)
+    (returns-2 t)
+    (root-requires t)
+    (mul-even t)
+    (add-odd t)
+    (mul-if3 t)
+    (returns-3 t)
+    (returns-4 t)

@@ -5,9 +5,9 @@ use native.Mathlib.Omega.{arith}
 use lib.ListN.{length, take}
 use lib.Seq.{take-all}
 use borrow.Author.Needs.{needs}
-use Rattle.settings.specs.Notation.{all}
+use Rattle.numbers.specs.Notation.{all}
 use Rattle.window.specs.Range.{between}
-use Rattle.window.proofs.Loops.{all-more}
+use Rattle.window.proofs.OneMore.{all-more}
 use Rattle.window.proofs.all_between.Statement.{statement}
 use Rattle.window.proofs.all_between.Tie as tie
 

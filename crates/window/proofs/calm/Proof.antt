@@ -1,20 +1,21 @@
--- The newest value is tested as it stands, the others by the code's two ends, which are `lowest` and `highest`: `less` is the difference, and both fit 32
--- bits, as no quotient is above what is divided. What each way out answers stands in Ways.
-use mathlib.Core.Path.{ap, _∙_}
-use Prim.Native.Nat.{ℕ, _≤_}
+-- The newest value is tested as it stands, the others by the code's two ends, which are `lowest` and `highest`. Both fit 32 bits, as a quotient is at most what
+-- is divided.
+use mathlib.Core.Path.{ap, sym, _∙_}
+use Prim.Native.Nat.{ℕ, _+_, _-_, _/_, _≤_}
 use native.Mathlib.Nat.{div-le-self, lt-of-le-of-lt, mul-le-mul}
 use native.Mathlib.Omega.{arith}
 use borrow.Author.Needs.{needs}
-use Rattle.settings.specs.Notation.{all}
+use Rattle.numbers.specs.Notation.{all}
+use Rattle.numbers.specs.NotationLaws.{and-fails, and-passes}
 use Rattle.window.specs.Range.{highest, between}
-use Rattle.window.proofs.Ways.{lowest-is, newest-above, newest-below, newest-in}
+use Rattle.window.specs.RangeLaws.{above-range, below-range, in-range}
 use Rattle.window.proofs.calm.Statement.{statement}
 use Rattle.window.proofs.calm.Tie as tie
 
 mul-scaled : tie.Need-mul-scaled
 mul-scaled c =
     let a = c .before .args in
-    let most : a .size ≤ 120 = omega arith in
+    let most : a .window-length ≤ 120 = omega arith in
     let newest : a .newest ≤ 4294967295 = omega arith in
     record { fits = omega (arith, mul-le-mul most newest) }
 
@@ -24,7 +25,7 @@ add-if1 c = search needs
 returns : tie.Need-returns
 returns c =
     let a = c .before .before .args in
-    newest-above (a .size) (a .sum) (a .limit) (a .newest) (a .part .now) (omega arith) (omega arith)
+    sym (and-fails _ (above-range (a .window-length) (a .sum) (a .limit) (omega arith) (a .newest) (omega arith)))
 
 add-if2 : tie.Need-add-if2
 add-if2 c = search needs
@@ -32,10 +33,10 @@ add-if2 c = search needs
 returns-2 : tie.Need-returns-2
 returns-2 c =
     let a = c .before .before .before .args in
-    newest-below (a .size) (a .sum) (a .limit) (a .newest) (a .part .now) (omega arith) (omega arith)
+    sym (and-fails _ (below-range (a .window-length) (a .sum) (a .limit) (omega arith) (a .newest) (omega arith)))
 
-less-requires : tie.Need-less-requires
-less-requires c κs = search needs
+minus-requires : tie.Need-minus-requires
+minus-requires c κs = search needs
 
 sub-lowest : tie.Need-sub-lowest
 sub-lowest c = search needs
@@ -47,7 +48,7 @@ div-lowest : tie.Need-div-lowest
 div-lowest c = search needs
 
 cast-lowest : tie.Need-cast-lowest
-cast-lowest c = record { fits = lt-of-le-of-lt (div-le-self _ _) (omega (arith, c .less .ensures)) }
+cast-lowest c = record { fits = lt-of-le-of-lt (div-le-self _ _) (omega (arith, c .minus .ensures)) }
 
 add-highest : tie.Need-add-highest
 add-highest c = search needs
@@ -63,12 +64,11 @@ all-between-requires c κs = search needs
 
 returns-3 : tie.Need-returns-3
 returns-3 c =
-    let less = c .before .less in
     let a = c .before .before .before .before .before .args in
-    let low = lowest-is (a .size) (a .sum) (a .limit) (less .result) (less .ensures) in
+    let n = a .window-length in
     c .all-between .ensures
-    ∙ ap (λ (lo : ℕ). all (between lo (highest (a .size) (a .sum) (a .limit))) (a .part .now)) low
-    ∙ newest-in (a .size) (a .sum) (a .limit) (a .newest) (a .part .now) (omega arith) (omega arith) (omega arith)
+    ∙ ap (λ (d : ℕ). all (between ((d + (n - 1)) / n) (highest n (a .sum) (a .limit))) (a .part .now)) (c .before .minus .ensures)
+    ∙ sym (and-passes _ (in-range n (a .sum) (a .limit) (omega arith) (a .newest) (omega arith) (omega arith)))
 
 pub calm-spec : {M : Type 1} → statement M
 calm-spec =
@@ -79,7 +79,7 @@ calm-spec =
     returns
     add-if2
     returns-2
-    less-requires
+    minus-requires
     sub-lowest
     add-lowest
     div-lowest

@@ -1,107 +1,107 @@
--- One store is the whole step: `filled` while places are free, `moved-on` after that; at the end of the slide the window is brought to its front first.
-use mathlib.Core.Path.{_≡_, sym, _∙_, ap, subst}
-use mathlib.Core.List.{List}
-use Prim.Native.Nat.{ℕ, _+_}
+-- The invariant: i turns have moved the values 1 to i down by one place. While places are free one store is the whole step; else the last store takes the last
+-- place, and `moved-last` says that this is the pushed window.
+use mathlib.Core.Path.{_≡_}
+use mathlib.Core.Bool.{false}
+use Prim.Native.Nat.{suc, _-_, _≤_}
 use native.Mathlib.Omega.{arith}
-use lib.ListN.{set}
+use lib.ListN.{length, length-set}
 use borrow.Author.Needs.{needs}
-use Rattle.window.specs.Window.{pushed}
-use Rattle.window.specs.WindowValid.{ValidWindow}
-use Rattle.window.specs.Slide.{windowAt}
-use Rattle.window.specs.SlideLaws.{stored, filled, moved-on}
+use borrow.Author.Tests.{lt-ltb, le-ltb}
+use Rattle.numbers.specs.Notation.{_<ᵇ_}
+use Rattle.window.proofs.Shift.{moved, moved-more, moved-last}
 use Rattle.window.proofs.push.Statement.{statement}
 use Rattle.window.proofs.push.Tie as tie
 
-add-slide : tie.Need-add-slide
-add-slide c = search needs
+abbrev Inv-loop : tie.InvT-loop
+Inv-loop window₀ n count value last i₀ window i = (i ≤ last) × (window ≡ moved window₀ i) × (length window ≡ length window₀)
 
-mul-slide : tie.Need-mul-slide
-mul-slide c = search needs
+abbrev μ-loop : tie.MeasureT-loop
+μ-loop window₀ n count value last i₀ window i = last - i
 
-slice-write-slide : tie.Need-slice-write-slide
-slice-write-slide c = search needs
+mul-window : tie.Need-mul-window Inv-loop μ-loop
+mul-window c = search needs
 
-same-length : tie.Need-same-length
+slice-write-window : tie.Need-slice-write-window Inv-loop μ-loop
+slice-write-window c = search needs
+
+same-length : tie.Need-same-length Inv-loop μ-loop
 same-length c = search needs
 
-returns : tie.Need-returns
-returns c =
-    let start = c .before .before in
-    let a = start .args in
-    let slid = start .pre .2 in (
-      filled (a .from) (a .slide .now) slid (a .size) (a .count) (a .value) (c .if1 .taken) (start .pre .1),
-      stored (a .from) (a .slide .now) slid (a .from) (a .from + a .count) (a .value) (omega arith) (slid .inside) (omega (arith, start .pre .1)),
-    )
+returns : tie.Need-returns Inv-loop μ-loop
+returns c = rw (lt-ltb _ _ (c .if1 .taken))
 
-add-slide-2 : tie.Need-add-slide-2
-add-slide-2 c = search needs
+sub-last : tie.Need-sub-last Inv-loop μ-loop
+sub-last c = search needs
 
-mul-slide-2 : tie.Need-mul-slide-2
-mul-slide-2 c = search needs
+loop-holds : tie.Need-loop-holds Inv-loop μ-loop
+loop-holds c = search needs
 
-slice-write-slide-2 : tie.Need-slice-write-slide-2
-slice-write-slide-2 c = search needs
+add-window : tie.Need-add-window Inv-loop μ-loop
+add-window c = search needs
 
-add-result : tie.Need-add-result
-add-result c = search needs
+mul-window-2 : tie.Need-mul-window-2 Inv-loop μ-loop
+mul-window-2 c = search needs
 
-same-length-2 : tie.Need-same-length-2
+slice-read-window : tie.Need-slice-read-window Inv-loop μ-loop
+slice-read-window c = search needs
+
+mul-window-3 : tie.Need-mul-window-3 Inv-loop μ-loop
+mul-window-3 c = search needs
+
+slice-write-window-2 : tie.Need-slice-write-window-2 Inv-loop μ-loop
+slice-write-window-2 c = search needs
+
+add-i : tie.Need-add-i Inv-loop μ-loop
+add-i c = search needs
+
+loop-less : tie.Need-loop-less Inv-loop μ-loop
+loop-less c = search needs
+
+loop-again : tie.Need-loop-again Inv-loop μ-loop
+loop-again c =
+    let loop = c .before .before .loop in
+    let window₀ = c .before .before .before .before .args .window .now in
+    (omega arith, rw (loop .inv .1) (moved-more window₀ (loop .i) (omega arith)), simp length-set (loop .inv .2))
+
+mul-window-4 : tie.Need-mul-window-4 Inv-loop μ-loop
+mul-window-4 c = search needs
+
+slice-write-window-3 : tie.Need-slice-write-window-3 Inv-loop μ-loop
+slice-write-window-3 c = search needs
+
+same-length-2 : tie.Need-same-length-2 Inv-loop μ-loop
 same-length-2 c = search needs
 
-returns-2 : tie.Need-returns-2
+returns-2 : tie.Need-returns-2 Inv-loop μ-loop
 returns-2 c =
-    let start = c .before .before .before in
-    let a = start .args in
-    let slid = start .pre .2 in (
-      moved-on (a .from) (a .slide .now) slid (a .size) (a .count) (a .value) (c .if2 .taken) (start .pre .0) (start .pre .1) (omega arith) (start .pre .3),
-      stored (a .from) (a .slide .now) slid (a .from + 1) (a .from + a .size) (a .value) (omega arith) (omega arith) (omega (arith, start .pre .1)),
-    )
-
-rewind-requires : tie.Need-rewind-requires
-rewind-requires c κs = search needs
-
-mul-slide-3 : tie.Need-mul-slide-3
-mul-slide-3 c = search needs
-
-slice-write-slide-3 : tie.Need-slice-write-slide-3
-slice-write-slide-3 c = search needs
-
-same-length-3 : tie.Need-same-length-3
-same-length-3 c = search needs
-
-returns-3 : tie.Need-returns-3
-returns-3 c =
-    let start = c .before .before .before .before .before .before .before in
-    let a = start .args in
-    let end : a .from ≡ 120 = omega (arith, start .pre .2 .inside) in
-    let front = c .before .before .rewind .last .0 in
-    let slid = c .before .before .rewind .ensures .1 in
-    let same : windowAt 0 front ≡ windowAt (a .from) (a .slide .now) = c .before .before .rewind .ensures .0 ∙ ap (λ (k : ℕ). windowAt k (a .slide .now)) (sym end) in
-    let valid = subst (ValidWindow (a .size) (a .count)) (sym same) (start .pre .3) in
-    let z : 0 + a .size ≡ a .size = omega arith in (
-      ap (λ (k : ℕ). windowAt 1 (set front k (a .value))) (sym z)
-          ∙ moved-on 0 front slid (a .size) (a .count) (a .value) (omega arith) (start .pre .0) (start .pre .1) (omega arith) valid
-          ∙ ap (λ (w : List ℕ). pushed (a .size) (a .count) w (a .value)) same,
-      stored 0 front slid 1 (a .size) (a .value) (omega arith) (omega arith) (omega (arith, start .pre .1)),
-    )
+    let a = c .before .before .before .args in
+    let loop = c .before .loop in
+    let e : loop .i ≡ a .window-length - 1 = omega arith in
+    let k : suc (a .window-length - 1) ≡ a .window-length = omega arith in
+    let full : (a .count <ᵇ a .window-length) ≡ false = le-ltb _ _ (c .before .before .if1 .left) in
+    rw (full, loop .inv .1, e, moved-last (a .window .now) (a .window-length - 1) (a .value) (omega arith), k)
 
 pub push-spec : {M : Type 1} → statement M
 push-spec =
     tie.close
     (tie.spec
-    add-slide
-    mul-slide
-    slice-write-slide
+    Inv-loop
+    μ-loop
+    mul-window
+    slice-write-window
     same-length
     returns
-    add-slide-2
-    mul-slide-2
-    slice-write-slide-2
-    add-result
+    sub-last
+    loop-holds
+    add-window
+    mul-window-2
+    slice-read-window
+    mul-window-3
+    slice-write-window-2
+    add-i
+    loop-less
+    loop-again
+    mul-window-4
+    slice-write-window-3
     same-length-2
-    returns-2
-    rewind-requires
-    mul-slide-3
-    slice-write-slide-3
-    same-length-3
-    returns-3)
+    returns-2)

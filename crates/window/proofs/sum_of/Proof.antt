@@ -6,7 +6,7 @@ use lib.ListN.{length, take}
 use lib.Seq.{take-all}
 use borrow.Author.Needs.{needs}
 use Rattle.reading.specs.Changes.{sum as sumOf}
-use Rattle.window.proofs.Loops.{sum-more}
+use Rattle.window.proofs.OneMore.{sum-more}
 use Rattle.window.proofs.sum_of.Statement.{statement}
 use Rattle.window.proofs.sum_of.Tie as tie
 

@@ -1,60 +1,67 @@
--- The bounds come from a valid detector and window, and the parts are put together by `tried`.
+-- The bounds come from a valid detector and window, and the parts are put together by `tried-is`.
 use native.Mathlib.Numerals.{add-one}
-use Rattle.detection.proofs.Ways.{sum-less, sum-small, tried}
 use native.Mathlib.Omega.{arith}
 use borrow.Author.Needs.{needs}
+use Rattle.detection.specs.DetectionLaws.{sum-most, leaving-within, joins-ready, tried-is}
 use Rattle.detection.proofs.Detector.try_value.Statement.{statement}
 use Rattle.detection.proofs.Detector.try_value.Tie as tie
 
 add-i : tie.Need-add-i
-add-i c = omega (arith, c .before .before .pre .count-lt)
+add-i c = search needs
 
-standing-after-requires : tie.Need-standing-after-requires
-standing-after-requires c κs = c .before .before .pre .value-le
+step-requires : tie.Need-step-requires
+step-requires c κs = search needs
 
-standing-after-requires-2 : tie.Need-standing-after-requires-2
-standing-after-requires-2 c κs = c .before .before .before .pre .value-le
+step-requires-2 : tie.Need-step-requires-2
+step-requires-2 c κs = search needs
 
-standing-after-requires-3 : tie.Need-standing-after-requires-3
-standing-after-requires-3 c κs = c .before .before .before .before .pre .value-le
+step-requires-3 : tie.Need-step-requires-3
+step-requires-3 c κs = search needs
+
+window-length-requires : tie.Need-window-length-requires
+window-length-requires c κs = search needs
 
 leaving-value-requires : tie.Need-leaving-value-requires
-leaving-value-requires c κs = omega (arith, c .before .before .before .before .before .pre .window-valid .size)
+leaving-value-requires c κs = search needs
+
+sub-t21 : tie.Need-sub-t21
+sub-t21 c =
+    let n = c .before .window-length in
+    leaving-within (c .before .before .before .before .before .before .before .pre) (n .ensures .0) (c .leaving-value .ensures)
+
+add-t22 : tie.Need-add-t22
+add-t22 c = let ready = c .before .before .before .before .before .before .before .pre in omega (arith, ready .value-le, sum-most ready)
 
 stands-at-requires : tie.Need-stands-at-requires
 stands-at-requires c κs = search needs
 
 phase-after-requires : tie.Need-phase-after-requires
-phase-after-requires c κs = (c .before .before .before .before .before .before .before .pre, c .before .leaving-value .ensures)
+phase-after-requires c κs =
+    let n = c .before .before in
+    let start = n .before .before .before .before .before .before in
+    (joins-ready (start .pre) (n .window-length .ensures .0) (c .before .leaving-value .ensures) (add-one (start .args .self .count)) (c .stands-at .result), start .pre .window-valid .size)
 
 ended-requires : tie.Need-ended-requires
-ended-requires c κs = omega (arith, c .before .before .before .before .before .before .before .before .before .pre .detector-valid .dip-valid .start-le)
+ended-requires c κs = search needs
 
 ended-requires-2 : tie.Need-ended-requires-2
-ended-requires-2 c κs = omega (arith, c .before .before .before .before .before .before .before .before .before .before .pre .detector-valid .swell-valid .start-le)
+ended-requires-2 c κs = search needs
 
 ended-requires-3 : tie.Need-ended-requires-3
-ended-requires-3 c κs = omega (arith, c .before .before .before .before .before .before .before .before .before .before .before .pre .detector-valid .interruption-valid .start-le)
-
-sub-t23 : tie.Need-sub-t23
-sub-t23 c =
-    let start = c .before .before .before .before .before .before .before .before .before .before .before .before in
-    let a = start .args in
-    sum-less (a .scaled) (a .size) (a .self) (a .window .now) (a .sum) (a .value) (start .pre) (c .before .before .before .before .before .before .leaving-value .result) (c .before .before .before .before .before .before .leaving-value .ensures)
-
-add-t24 : tie.Need-add-t24
-add-t24 c =
-    let start = c .before .before .before .before .before .before .before .before .before .before .before .before in
-    let a = start .args in
-    omega (arith, start .pre .value-le, sum-small (a .scaled) (a .size) (a .self) (a .window .now) (a .sum) (a .value) (start .pre) (c .before .before .before .before .before .before .leaving-value .result) (c .before .before .before .before .before .before .leaving-value .ensures))
+ended-requires-3 c κs = search needs
 
 returns : tie.Need-returns
 returns c =
-    let start = c .before .before .before .before .before .before .before .before .before .before .before .before in
-    let a = start .args in
-    tried (a .scaled) (a .size) (a .self) (a .window .now) (a .sum) (a .value) (start .pre) (c .before .before .before .before .before .before .leaving-value .result) (c .before .before .before .before .before .before .leaving-value .ensures)
-    _ _ _ _ _ (c .before .before .before .before .phase-after .result) _ _ _ (add-one (a .self .count))
-    (c .before .before .before .before .before .before .before .before .before .standing-after .ensures) (c .before .before .before .before .before .before .before .before .standing-after2 .ensures) (c .before .before .before .before .before .before .before .standing-after3 .ensures) (c .before .before .before .before .before .stands-at .ensures) (c .before .before .before .before .phase-after .ensures)
+    let moved = c .before .before .before in
+    let stands = moved .before in
+    let leaving = stands .before in
+    let n = leaving .before in
+    let interruption = n .before in
+    let swell = interruption .before in
+    let dip = swell .before in
+    let start = dip .before .before .before in
+    tried-is (start .pre) (n .window-length .ensures .0) (leaving .leaving-value .ensures) (add-one (start .args .self .count)) (stands .stands-at .result)
+    (dip .step .ensures) (swell .step2 .ensures) (interruption .step3 .ensures) (stands .stands-at .ensures) (moved .phase-after .ensures)
     (c .before .before .ended .ensures) (c .before .ended2 .ensures) (c .ended3 .ensures)
 
 pub try-value-spec : {M : Type 1} → statement M
@@ -62,15 +69,16 @@ try-value-spec =
     tie.close
     (tie.spec
     add-i
-    standing-after-requires
-    standing-after-requires-2
-    standing-after-requires-3
+    step-requires
+    step-requires-2
+    step-requires-3
+    window-length-requires
     leaving-value-requires
+    sub-t21
+    add-t22
     stands-at-requires
     phase-after-requires
     ended-requires
     ended-requires-2
     ended-requires-3
-    sub-t23
-    add-t24
     returns)

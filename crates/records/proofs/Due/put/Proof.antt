@@ -1,64 +1,62 @@
 -- `Due::put` meets its contract. Each call leaves room for those after it (`length-eventsOf`), and its record stands behind those before it (`placed-records`).
-use mathlib.Core.Path.{_≡_, ap, _∙_}
+use mathlib.Core.Path.{_≡_, refl, ap, _∙_}
 use mathlib.Core.List.{List, [], _∷_, _++_, append-assoc}
-use Prim.Native.Nat.{ℕ, _+_, _*_, _≤_}
+use Prim.Native.Nat.{ℕ, _+_, _*_}
 use native.Mathlib.Omega.{arith}
 use lib.ListN.{length, length-append}
 use borrow.Author.Needs.{needs}
 use Rattle.reading.specs.declared.Event.{Event}
 use Rattle.reading.specs.Records.{recordBytes}
+use Rattle.reading.specs.Engineer.{over}
 use Rattle.threshold.specs.Standing.{listOf}
 use Rattle.records.specs.Due.{eventsOf, placed}
-use Rattle.records.specs.DueLaws.{length-eventsOf, placed-none, placed-records}
+use Rattle.records.specs.DueLaws.{length-eventsOf, placed-records}
 use Rattle.records.proofs.Due.put.Statement.{statement}
 use Rattle.records.proofs.Due.put.Tie as tie
 
 -- the records of four lists, placed one behind the other
-four-placed : (at q₁ q₂ q₃ : ℕ) (es₁ es₂ es₃ es₄ : List Event) (b b₁ b₂ b₃ b₄ : List ℕ) → at + 20 * length (es₁ ++ (es₂ ++ (es₃ ++ es₄))) ≤ length b
-    → q₁ ≡ at + 20 * length es₁ → q₂ ≡ q₁ + 20 * length es₂ → q₃ ≡ q₂ + 20 * length es₃
-    → b₁ ≡ placed at (recordBytes es₁) b → b₂ ≡ placed q₁ (recordBytes es₂) b₁ → b₃ ≡ placed q₂ (recordBytes es₃) b₂ → b₄ ≡ placed q₃ (recordBytes es₄) b₃
-    → b₄ ≡ placed at (recordBytes (es₁ ++ (es₂ ++ (es₃ ++ es₄)))) b
-four-placed at q₁ q₂ q₃ es₁ es₂ es₃ es₄ b b₁ b₂ b₃ b₄ fits e₁ e₂ e₃ h₁ h₂ h₃ h₄ =
+four-placed : (q₁ q₂ q₃ : ℕ) (es₁ es₂ es₃ es₄ : List Event) (b b₁ b₂ b₃ b₄ : List ℕ)
+    → q₁ ≡ 0 + 20 * length es₁ → q₂ ≡ q₁ + 20 * length es₂ → q₃ ≡ q₂ + 20 * length es₃
+    → b₁ ≡ over (recordBytes es₁) b → b₂ ≡ placed q₁ (recordBytes es₂) b₁ → b₃ ≡ placed q₂ (recordBytes es₃) b₂ → b₄ ≡ placed q₃ (recordBytes es₄) b₃
+    → b₄ ≡ over (recordBytes (es₁ ++ (es₂ ++ (es₃ ++ es₄)))) b
+four-placed q₁ q₂ q₃ es₁ es₂ es₃ es₄ b b₁ b₂ b₃ b₄ e₁ e₂ e₃ h₁ h₂ h₃ h₄ =
     let is : ((es₁ ++ es₂) ++ es₃) ++ es₄ ≡ es₁ ++ (es₂ ++ (es₃ ++ es₄)) = simp append-assoc in
-    let l₄ = ap length is in
-    let l₃ = length-append ((es₁ ++ es₂) ++ es₃) es₄ in
     let l₂ = length-append (es₁ ++ es₂) es₃ in
     let l₁ = length-append es₁ es₂ in
-    let g₂ = placed-records at q₁ es₁ es₂ b b₁ b₂ (omega arith) e₁ h₁ h₂ in
-    let g₃ = placed-records at q₂ (es₁ ++ es₂) es₃ b b₂ b₃ (omega arith) (omega arith) g₂ h₃ in
-    let g₄ = placed-records at q₃ ((es₁ ++ es₂) ++ es₃) es₄ b b₃ b₄ (omega arith) (omega arith) g₃ h₄ in
-    g₄ ∙ ap (λ (es : List Event). placed at (recordBytes es) b) is
+    let g₂ = h₂ ∙ placed-records q₁ es₁ es₂ b b₁ (omega arith) h₁ in
+    let g₃ = h₃ ∙ placed-records q₂ (es₁ ++ es₂) es₃ b b₂ (omega arith) g₂ in
+    let g₄ = h₄ ∙ placed-records q₃ ((es₁ ++ es₂) ++ es₃) es₄ b b₃ (omega arith) g₃ in
+    g₄ ∙ ap (λ (es : List Event). over (recordBytes es) b) is
 
 -- the records of no event
-none-placed : (at : ℕ) (es : List Event) (b : List ℕ) → length es ≡ 0 → b ≡ placed at (recordBytes es) b
-none-placed at [] b h = placed-none at b
-none-placed at (e ∷ es) b h = absurd (omega arith)
+none-over : (es : List Event) (b : List ℕ) → length es ≡ 0 → b ≡ over (recordBytes es) b
+none-over [] b h = refl
+none-over (e ∷ es) b h = absurd (omega arith)
 
 count-requires : tie.Need-count-requires
 count-requires c κs = search needs
 
 returns : tie.Need-returns
 returns c =
-    let counted = c .before .count in
     let a = c .before .before .before .args in
-    none-placed (a .at) (eventsOf (a .self)) (a .buffer .now) (omega (arith, counted .ensures .0, c .if1 .taken))
+    none-over (eventsOf (a .self)) (a .buffer .now) (omega (arith, c .before .count .ensures, c .if1 .taken))
 
 put-ended-requires : tie.Need-put-ended-requires
 put-ended-requires c κs =
-    let start = c .before .before .before .before .before .before .before .before in
+    let start = c .before .before .before .before in
     omega (arith, length-eventsOf (start .args .self), start .pre)
 
 put-ended-requires-2 : tie.Need-put-ended-requires-2
 put-ended-requires-2 c κs =
     let c₁ = c .before .before .before in
-    let start = c₁ .before .before .before .before .before .before .before .before .before in
+    let start = c₁ .before .before .before .before .before in
     omega (arith, length-eventsOf (start .args .self), start .pre, c₁ .put-ended .ensures .0, c₁ .put-ended .kept)
 
 put-ended-requires-3 : tie.Need-put-ended-requires-3
 put-ended-requires-3 c κs =
     let c₂ = c .before .before .before in
     let c₁ = c₂ .before .before .before .before in
-    let start = c₁ .before .before .before .before .before .before .before .before .before in
+    let start = c₁ .before .before .before .before .before in
     omega (
       arith,
       length-eventsOf (start .args .self),
@@ -74,7 +72,7 @@ put-ended-requires-4 c κs =
     let c₃ = c .before .before .before in
     let c₂ = c₃ .before .before .before .before in
     let c₁ = c₂ .before .before .before .before in
-    let start = c₁ .before .before .before .before .before .before .before .before .before in
+    let start = c₁ .before .before .before .before .before in
     omega (
       arith,
       length-eventsOf (start .args .self),
@@ -96,14 +94,9 @@ returns-2 c =
     let c₃ = c₄ .before .before .before .before in
     let c₂ = c₃ .before .before .before .before in
     let c₁ = c₂ .before .before .before .before in
-    let start = c₁ .before .before .before .before .before .before .before .before .before in
-    let a = start .args in
-    let b = a .buffer .now in
-    let dip = listOf (a .self .dip) in
-    let swell = listOf (a .self .swell) in
-    let interruption = listOf (a .self .interruption) in
-    let change = listOf (a .self .change) in
-    four-placed (a .at) _ _ _ dip swell interruption change b _ _ _ _ (start .pre)
+    let a = c₁ .before .before .before .before .before .args in
+    let d = a .self in
+    four-placed _ _ _ (listOf (d .dip)) (listOf (d .swell)) (listOf (d .interruption)) (listOf (d .change)) (a .buffer .now) _ _ _ _
     (c₁ .put-ended .ensures .0) (c₂ .put-ended2 .ensures .0) (c₃ .put-ended3 .ensures .0)
     (c₁ .put-ended .ensures .1) (c₂ .put-ended2 .ensures .1) (c₃ .put-ended3 .ensures .1) (c₄ .put-ended4 .ensures .1)
 

@@ -3,8 +3,8 @@ use borrow.Author.Needs.{needs}
 use Rattle.rvc.proofs.Change.with_value.Statement.{statement}
 use Rattle.rvc.proofs.Change.with_value.Tie as tie
 
-sub-greatest : tie.Need-sub-greatest
-sub-greatest c = search needs
+minus-requires : tie.Need-minus-requires
+minus-requires c κs = search needs
 
 greatest-requires : tie.Need-greatest-requires
 greatest-requires c κs = search needs
@@ -13,7 +13,8 @@ first-stand-requires : tie.Need-first-stand-requires
 first-stand-requires c κs = search needs
 
 returns : tie.Need-returns
-returns c = rw (c .before .greatest .ensures, c .first-stand .ensures)
+returns c = rw (c .before .greatest .ensures, c .first-stand .ensures, c .before .before .minus .ensures)
 
 pub with-value-spec : {M : Type 1} → statement M
-with-value-spec = tie.close (tie.spec sub-greatest greatest-requires first-stand-requires returns)
+with-value-spec =
+    tie.close (tie.spec minus-requires greatest-requires first-stand-requires returns)

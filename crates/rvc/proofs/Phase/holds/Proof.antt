@@ -15,11 +15,11 @@ enum-told-3 c = search needs
 enum-known-self : tie.Need-enum-known-self
 enum-known-self c = search needs
 
-sub-result : tie.Need-sub-result
-sub-result c = rw (c .before .before .self .given .1) at (c .before .before .before .before .pre)
+minus-requires : tie.Need-minus-requires
+minus-requires c κs = search needs
 
 returns : tie.Need-returns
-returns c = search needs
+returns c = rw (c .enum-told .given .1)
 
 returns-2 : tie.Need-returns-2
 returns-2 c = search needs
@@ -28,7 +28,7 @@ returns-3 : tie.Need-returns-3
 returns-3 c = search needs
 
 returns-4 : tie.Need-returns-4
-returns-4 c = rw (c .before .before .self .given .1)
+returns-4 c = rw (c .before .before .self .given .1, c .minus .ensures)
 
 pub holds-spec : {M : Type 1} → statement M
 holds-spec =
@@ -38,7 +38,7 @@ holds-spec =
     enum-told-2
     enum-told-3
     enum-known-self
-    sub-result
+    minus-requires
     returns
     returns-2
     returns-3

@@ -1,7 +1,7 @@
 -- Both bounds of U: the first test leaves the second to decide, or decides.
 use mathlib.Core.Path.{sym, _∙_}
 use borrow.Author.Tests.{le-leb, lt-leb}
-use Rattle.settings.specs.NotationLaws.{and-fails, and-passes}
+use Rattle.numbers.specs.NotationLaws.{and-fails, and-passes}
 use Rattle.settings.specs.Settings.{declaredGood}
 use Rattle.settings.proofs.Settings.declared_good.Statement.{statement}
 use Rattle.settings.proofs.Settings.declared_good.Tie as tie

@@ -1,7 +1,7 @@
 -- F is 50, or else the second test decides.
 use mathlib.Core.Path.{sym, _∙_}
 use borrow.Author.Tests.{eq-eqb, ne-eqb}
-use Rattle.settings.specs.NotationLaws.{or-fails, or-passes}
+use Rattle.numbers.specs.NotationLaws.{or-fails, or-passes}
 use Rattle.settings.specs.Settings.{frequencyGood}
 use Rattle.settings.proofs.Settings.frequency_good.Statement.{statement}
 use Rattle.settings.proofs.Settings.frequency_good.Tie as tie

@@ -4,7 +4,7 @@ use mathlib.Core.List.{List}
 use Prim.Native.Nat.{ℕ, zero, suc}
 use borrow.Author.Needs.{needs}
 use borrow.Author.Tests.{eq-eqb, ne-eqb}
-use Rattle.settings.specs.NotationLaws.{refuse-fails, refuse-passes}
+use Rattle.numbers.specs.NotationLaws.{refuse-fails, refuse-passes}
 use Rattle.settings.specs.Settings.{settingsOf, settingsRefusal, startRefusal, answerOf, settingsRead}
 use Rattle.settings.specs.declared.Settings.{Settings}
 use Rattle.settings.specs.declared.SettingsRead.the-variants.{Refused}

@@ -1,7 +1,7 @@
 -- The levels' bounds in the reading's order: each test that passes leaves the rest of the reading's conjunction, and one that fails decides.
 use mathlib.Core.Path.{sym, _∙_}
 use borrow.Author.Tests.{le-leb, lt-leb}
-use Rattle.settings.specs.NotationLaws.{and-fails, and-passes}
+use Rattle.numbers.specs.NotationLaws.{and-fails, and-passes}
 use Rattle.settings.specs.Settings.{levelsGood}
 use Rattle.settings.proofs.Settings.levels_good.Statement.{statement}
 use Rattle.settings.proofs.Settings.levels_good.Tie as tie

@@ -2,7 +2,7 @@
 use mathlib.Core.Path.{sym}
 use borrow.Author.Needs.{needs}
 use borrow.Author.Tests.{le-leb, lt-leb}
-use Rattle.settings.specs.NotationLaws.{and-fails, and-passes}
+use Rattle.numbers.specs.NotationLaws.{and-fails, and-passes}
 use Rattle.settings.specs.Settings.{orderGood}
 use Rattle.settings.proofs.Settings.order_good.Statement.{statement}
 use Rattle.settings.proofs.Settings.order_good.Tie as tie

@@ -4,8 +4,8 @@ use mathlib.Core.Bool.{Bool, true, false, not, _&&_}
 use Prim.Native.Nat.{ℕ}
 use borrow.Author.Needs.{needs}
 use borrow.Author.Tests.{not-true, not-false}
-use Rattle.settings.specs.Notation.{refuse_unless_then_}
-use Rattle.settings.specs.NotationLaws.{and-fails, and-passes, refuse-fails, refuse-passes}
+use Rattle.numbers.specs.Notation.{refuse_unless_then_}
+use Rattle.numbers.specs.NotationLaws.{and-fails, and-passes, refuse-fails, refuse-passes}
 use Rattle.settings.specs.Settings.{settingsRefusal, frequencyGood, declaredGood, limitGood, levelsGood, orderGood}
 use Rattle.settings.specs.declared.Settings.{Settings}
 use Rattle.settings.proofs.Settings.refusal.Statement.{statement}

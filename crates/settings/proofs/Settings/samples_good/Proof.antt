@@ -1,7 +1,7 @@
 -- Both bounds of M: the first test leaves the second to decide, or decides.
 use mathlib.Core.Path.{sym, _∙_}
 use borrow.Author.Tests.{le-leb, lt-leb}
-use Rattle.settings.specs.NotationLaws.{and-fails, and-passes}
+use Rattle.numbers.specs.NotationLaws.{and-fails, and-passes}
 use Rattle.settings.specs.Settings.{samplesGood}
 use Rattle.settings.proofs.Settings.samples_good.Statement.{statement}
 use Rattle.settings.proofs.Settings.samples_good.Tie as tie

@@ -4,7 +4,7 @@ use mathlib.Core.Bool.{Bool}
 use Prim.Native.Nat.{ℕ}
 use borrow.Author.Needs.{needs}
 use borrow.Author.Tests.{eq-eqb, ne-eqb}
-use Rattle.settings.specs.Notation.{if_then_else_}
+use Rattle.numbers.specs.Notation.{if_then_else_}
 use Rattle.settings.proofs.Settings.window_length.Statement.{statement}
 use Rattle.settings.proofs.Settings.window_length.Tie as tie
 

@@ -1,3 +1,0 @@
-pub mod Shares
-pub mod BlockWays
-pub mod BytesWays

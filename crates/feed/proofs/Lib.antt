@@ -1,0 +1,2 @@
+pub mod HalfEnds
+pub mod Walking

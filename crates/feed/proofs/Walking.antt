@@ -1,0 +1,245 @@
+-- The walk over a block: what is fed so far, and the cut of what is left. A turn takes one half-cycle more; the walk ends with one that is not taken, or with
+-- the rest.
+use mathlib.Core.Path.{_≡_, refl, sym, _∙_, ap, subst}
+use mathlib.Core.Bool.{Bool, true, false}
+use mathlib.Core.List.{List, [], _++_}
+use Prim.Native.Nat.{ℕ, zero, suc, _+_, _-_, _*_, _^_, _≤_, _<_}
+use native.Mathlib.Omega.{arith}
+use lib.ListN.{length, take, drop, length-drop, take-append-drop}
+use lib.Seq.{length-take-le, take-all}
+use lib.IntN.{ℤ}
+use borrow.Author.Tests.{ltb-false}
+use borrow.Rule.Slice.PartMut.{putMid}
+use Rattle.numbers.specs.Notation.{_<ᵇ_, if_then_else_}
+use Rattle.settings.specs.declared.Settings.{Settings}
+use Rattle.settings.specs.declared.Scaled.{Scaled}
+use Rattle.settings.specs.Settings.{scaledOf}
+use Rattle.reading.specs.declared.Told.{Told}
+use Rattle.reading.specs.Changes.{sum as sumOf}
+use Rattle.reading.specs.Engineer.{room}
+use Rattle.rms.specs.declared.Part.{Part}
+use Rattle.rms.specs.declared.Gatherer.{Gatherer}
+use Rattle.rms.specs.declared.Share.{Share}
+use Rattle.rms.specs.Gather.{partOf, cut, PartFits}
+use Rattle.rms.specs.CutLaws.{Within, cut-within}
+use Rattle.detection.specs.declared.Detector.{Detector}
+use Rattle.greedy.specs.Greedy.{fedBy}
+use Rattle.state.specs.declared.State.{State}
+use Rattle.state.specs.State.{stateWith, ValidState}
+use Rattle.state.specs.Step.{dueWith, halfJoined, partJoined, passesEnd, whyNot, machine}
+use Rattle.state.specs.StepLaws.{feed-taken, feed-stops, feed-rest}
+use Rattle.state.specs.StepValid.{halfJoined-valid, partJoined-valid}
+use Rattle.state.specs.Calls.{fedWith}
+use Rattle.state.specs.ProgressLaws.{Progress, progress-none, progress-more, progress-last, lent-behind, back-behind}
+use Rattle.feed.specs.declared.Half.{Half}
+use Rattle.feed.specs.declared.Walked.{Walked}
+use Rattle.feed.specs.Feed.{HalfReady, HalfOutcome, halfBy, halfOutcome, halfOf, walkedOf, walkedWith}
+
+-- parts of a block, as the code takes them
+pub rest-is : (at : ℕ) (block : List ℤ) → take (length block - at) (drop at block) ≡ drop at block
+rest-is at block = take-all (length block - at) (drop at block) (omega (arith, length-drop at block))
+
+part-of : (at n k : ℕ) (block : List ℤ) → k ≡ n → partOf (take k (drop at block)) ≡ partOf (take n (drop at block))
+part-of at n k block e = ap (λ (j : ℕ). partOf (take j (drop at block))) e
+
+part-long : (at n : ℕ) (block : List ℤ) → at + n ≤ length block → length (take n (drop at block)) ≡ n
+part-long at n block h = length-take-le n (drop at block) (omega (arith, length-drop at block))
+
+-- what a taken half-cycle gives, and one that is not
+half-taken : (y : ℕ) (o : HalfOutcome) (st : State) (p : Part) (lent : List ℕ) → o ≡ halfBy y st p lent → o .why ≡ 0 → (y ≡ 0) × (o ≡ halfBy 0 st p lent)
+half-taken zero o st p lent e none = (refl, e)
+half-taken (suc y) o st p lent e none = absurd (omega (arith, ap (λ (k : HalfOutcome). k .why) e))
+
+half-refused : (y : ℕ) (o : HalfOutcome) (st : State) (p : Part) (lent : List ℕ) → o ≡ halfBy y st p lent → 0 < o .why → (o .why ≡ y) × (o .after ≡ st) × (o .bytes ≡ lent)
+half-refused zero o st p lent e some = absurd (omega (arith, ap (λ (k : HalfOutcome). k .why) e))
+half-refused (suc y) o st p lent e some = (ap (λ (k : HalfOutcome). k .why) e, ap (λ (k : HalfOutcome). k .after) e, ap (λ (k : HalfOutcome). k .bytes) e)
+
+no-why : (past full : Bool) → _≡_ {A = ℕ} (if past then 2 else if full then 1 else 0) 0 → (past ≡ false) × (full ≡ false)
+no-why true full e = absurd (omega arith)
+no-why false true e = absurd (omega arith)
+no-why false false e = (refl, refl)
+
+-- what `end_walk` gives
+abbrev pub Ended : Gatherer → Detector → List ℤ → Told → Walked → Type 0
+Ended g d samples told last = (last ≡ walkedWith g d (partOf samples) told) × (partOf samples .squares ≤ length samples * 2 ^ 30)
+
+-- what `walk` gives
+abbrev pub WalkIs : State → List ℤ → List ℕ → Settings → List ℕ → Walked → List ℕ → Type 0
+WalkIs st₀ block lent s w last out = (walkedOf s last w out ≡ fedWith st₀ block lent) × ValidState (stateWith s (last .gatherer) (last .detector) w)
+
+-- the invariant of the walk
+module _ (s : Settings) (w₀ : List ℕ) (block : List ℤ) (lent : List ℕ) (g₀ : Gatherer) (d₀ : Detector) where
+  abbrev first : State
+  first = stateWith s g₀ d₀ w₀
+
+  pub record Walking (w out : List ℕ) (g : Gatherer) (d : Detector) (sum at written : ℕ) (share : Share) : Type 0 where
+    pub so-far : Progress first block lent (stateWith s g d w) at written out
+    pub sum-is : sum ≡ sumOf w
+    pub within : Within (s .samples) g (drop at block) share
+    pub share-is : share ≡ cut (s .samples) g (drop at block)
+    pub long : length out ≡ length lent
+    pub wide : length w ≡ length w₀
+    pub fits : 20 * written ≤ length lent
+    pub share-in : at + share .count ≤ length block
+    pub samples-most : s .samples ≤ 256
+    pub sum-le : g .sum ≤ g .count * 2 ^ 30
+
+  walking : (w out : List ℕ) (g : Gatherer) (d : Detector) (sum at written : ℕ) (share : Share) → Progress first block lent (stateWith s g d w) at written out →
+      sum ≡ sumOf w → share ≡ cut (s .samples) g (drop at block) → length out ≡ length lent → length w ≡ length w₀ → Walking w out g d sum at written share
+  walking w out g d sum at written share so-far sum-is share-is long wide =
+      let within : Within (s .samples) g (drop at block) share = rw share-is (cut-within (s .samples) (drop at block) g (so-far .valid .gatherer-valid .count-lt)) in
+      record {
+        so-far = so-far;
+        sum-is = sum-is;
+        within = within;
+        share-is = share-is;
+        long = long;
+        wide = wide;
+        fits = omega (arith, so-far .fits);
+        share-in = omega (arith, within .inside, so-far .at-in, length-drop at block);
+        samples-most = so-far .valid .settings-valid .samples-most;
+        sum-le = so-far .valid .gatherer-valid .sum-le;
+      }
+
+  -- it starts
+  pub walk-starts : ValidState first → (sum : ℕ) (share : Share) → sum ≡ sumOf w₀ → share ≡ cut (s .samples) g₀ block → Walking w₀ lent g₀ d₀ sum 0 0 share
+  walk-starts ok sum share sum-is share-is = walking w₀ lent g₀ d₀ sum 0 0 share (progress-none first block lent ok) sum-is share-is refl refl
+
+-- it turns and ends
+module _ {s : Settings} {w₀ : List ℕ} {block : List ℤ} {lent : List ℕ} {g₀ : Gatherer} {d₀ : Detector} {w out : List ℕ} {g : Gatherer} {d : Detector}
+    {sum at written : ℕ} {share : Share} (inv : Walking s w₀ block lent g₀ d₀ w out g d sum at written share) where
+  abbrev st₀ : State
+  st₀ = stateWith s g₀ d₀ w₀
+
+  abbrev st : State
+  st = stateWith s g d w
+
+  abbrev left : ℕ
+  left = room lent - written
+
+  abbrev behind : ℕ
+  behind = 20 * written
+
+  abbrev rest : List ℤ
+  rest = drop at block
+
+  abbrev telling : ℕ → ℕ → Told
+  telling taken why = record { taken = taken; written = written; why = why }
+
+  -- the end of the walk, with a part that leaves the half-cycle in progress
+  walk-last : (last : Walked) (p : Part) (taken why : ℕ) (w₁ out₁ : List ℕ) → PartFits (s .samples) g p → g .count + p .count < s .samples →
+      last ≡ walkedWith g d p (telling taken why) → w₁ ≡ w → (k : ℕ) → taken ≡ at + k →
+      fedBy machine st rest left ≡ record { after = partJoined st p; taken = k; events = []; why = why } → out₁ ≡ take behind out ++ drop behind out →
+      WalkIs st₀ block lent s w₁ last out₁
+  walk-last last p taken why w₁ out₁ fits below last-is window-is k taken-is fed bytes-are =
+      let none : written ≡ written + 0 = omega arith in
+      let end-is : stateWith s (last .gatherer) (last .detector) w₁ ≡ partJoined st p = λ i. stateWith s (last-is i .gatherer) (last-is i .detector) (window-is i) in (
+        (λ i. record { after = end-is i; told = last-is i .told; bytes = out₁ })
+            ∙ (λ i. record { after = partJoined st p; told = record { taken = taken-is i; written = none i; why = why }; bytes = out₁ })
+            ∙ progress-last (inv .so-far) (record { after = partJoined st p; taken = k; events = []; why = why }) out₁ fed bytes-are,
+        subst ValidState (sym end-is) (partJoined-valid st p (inv .so-far .valid) fits below),
+      )
+
+  -- a half-cycle ends
+  module _ (completes : share .completes ≡ true) where
+    abbrev n : ℕ
+    n = share .count
+
+    abbrev p : Part
+    p = partOf (take n rest)
+
+    pub share-some : 0 < n
+    share-some = inv .within .some completes
+
+    pub half-few : length (take (at + n - at) rest) ≤ 256
+    half-few = omega (arith, ap (λ (q : Part). q .count) (part-of at n (at + n - at) block (omega arith)), part-long at n block (inv .share-in), inv .within .fits, inv .samples-most)
+
+    module _ {q : Part} (q-of : (q ≡ partOf (take (at + n - at) rest)) × (q .squares ≤ q .count * 2 ^ 30)) where
+      q-is : q ≡ p
+      q-is = q-of .0 ∙ part-of at n (at + n - at) block (omega arith)
+
+      q-fits : PartFits (s .samples) g q
+      q-fits = record { count-le = omega (arith, ap (λ (k : Part). k .count) q-is, part-long at n block (inv .share-in), inv .within .fits); squares-le = q-of .1 }
+
+      p-fits : PartFits (s .samples) g p
+      p-fits = subst (PartFits (s .samples) g) q-is q-fits
+
+      pub complete-ready : (t : Scaled) → t ≡ scaledOf s → HalfReady s t g d sum w q
+      complete-ready t scaled-is = record { valid = inv .so-far .valid; scaled-is = scaled-is; sum-is = inv .sum-is; part-fits = q-fits }
+
+      -- what `complete` gave, on the buffer behind the records written before
+      module _ {h : Half} {w₁ part : List ℕ} (is : halfOf s h w₁ part ≡ halfOutcome st q (take (length out - behind) (drop behind out))) where
+        abbrev back : List ℕ
+        back = putMid behind (length out - behind) out part
+
+        back-is : back ≡ take behind out ++ part
+        back-is = back-behind behind out part (omega (arith, inv .fits, inv .long))
+
+        room-is : room (drop behind out) ≡ left
+        room-is = omega (arith, length-drop behind out, inv .so-far .fits, inv .long)
+
+        given : halfOf s h w₁ part ≡ halfBy (whyNot st p left) st p (drop behind out)
+        unfolding halfOutcome
+        given = is ∙ (λ i. halfOutcome st (q-is i) (lent-behind behind out i)) ∙ ap (λ (k : ℕ). halfBy (whyNot st p k) st p (drop behind out)) room-is
+
+        -- it is taken
+        module _ (none : h .why ≡ 0) where
+          took : (whyNot st p left ≡ 0) × (halfOf s h w₁ part ≡ halfBy 0 st p (drop behind out))
+          took = half-taken (whyNot st p left) (halfOf s h w₁ part) st p (drop behind out) given none
+
+          after-is : halfJoined st p ≡ stateWith s (h .gatherer) (h .detector) w₁
+          after-is = sym (ap (λ (o : HalfOutcome). o .after) (took .1))
+
+          written-is : length (dueWith st p) ≡ h .written
+          written-is = sym (ap (λ (o : HalfOutcome). o .written) (took .1))
+
+          next : Progress st₀ block lent (stateWith s (h .gatherer) (h .detector) w₁) (at + n) (written + h .written) back
+          next =
+              let t = no-why (passesEnd st p) (left <ᵇ length (dueWith st p)) (took .0) in
+              let few : length (dueWith st p) ≤ left = ltb-false left (length (dueWith st p)) (t .1) in
+              subst (λ (k : ℕ). Progress st₀ block lent (stateWith s (h .gatherer) (h .detector) w₁) (at + n) (written + k) back) written-is
+              (subst (λ (z : State). Progress st₀ block lent z (at + n) (written + length (dueWith st p)) back) after-is
+              (progress-more (inv .so-far) n (dueWith st p) (halfJoined st p) back (inv .share-in) few
+              (halfJoined-valid st p (inv .so-far .valid) p-fits (t .0))
+              (feed-taken st rest left (inv .so-far .valid .gatherer-valid .count-lt) share (inv .share-is) completes (took .0))
+              (back-is ∙ ap (λ (l : List ℕ). take behind out ++ l) (ap (λ (o : HalfOutcome). o .bytes) (took .1)))))
+
+          pub taken-fits : written + h .written ≤ room lent
+          taken-fits = next .fits
+
+          pub taken-count : h .gatherer .count < s .samples
+          taken-count = next .valid .gatherer-valid .count-lt
+
+          pub walk-turns : (share₁ : Share) → share₁ ≡ cut (s .samples) (h .gatherer) (take (length block - (at + n)) (drop (at + n) block)) →
+              length back ≡ length out → length w₁ ≡ length w → Walking s w₀ block lent g₀ d₀ w₁ back (h .gatherer) (h .detector) (h .sum) (at + n) (written + h .written) share₁
+          walk-turns share₁ share-is long wide =
+              walking s w₀ block lent g₀ d₀ w₁ back (h .gatherer) (h .detector) (h .sum) (at + n) (written + h .written) share₁ next
+              (ap (λ (o : HalfOutcome). o .sum) (took .1) ∙ ap (λ (z : State). sumOf (z .window)) after-is)
+              (share-is ∙ ap (cut (s .samples) (h .gatherer)) (rest-is (at + n) block)) (long ∙ inv .long) (wide ∙ inv .wide)
+
+        -- it is not
+        pub walk-stops : 0 < h .why → (last : Walked) → Ended g d (take (at + n - 1 - at) rest) (telling (at + n - 1) (h .why)) last →
+            WalkIs st₀ block lent s w₁ last back
+        walk-stops some last ended =
+            let stopped = half-refused (whyNot st p left) (halfOf s h w₁ part) st p (drop behind out) given some in
+            let window-is : w₁ ≡ w = ap (λ (z : State). z .window) (stopped .1) in
+            let bytes-are : part ≡ drop behind out = stopped .2 in
+            let less : Part = partOf (take (n - 1) rest) in
+            let less-is : partOf (take (at + n - 1 - at) rest) ≡ less = part-of at (n - 1) (at + n - 1 - at) block (omega arith) in
+            let some-in : 0 < n = share-some in
+            let long : length (take (n - 1) rest) ≡ n - 1 = part-long at (n - 1) block (omega (arith, inv .share-in)) in
+            let below : g .count + less .count < s .samples = omega (arith, inv .within .fits) in
+            let bound : less .squares ≤ less .count * 2 ^ 30 = omega (arith, ended .1, ap (λ (k : Part). k .squares) less-is, ap (λ (k : Part). k .count) less-is) in
+            walk-last last less (at + n - 1) (h .why) w₁ back (record { count-le = omega arith; squares-le = bound }) below (ended .0 ∙ ap (λ (k : Part). walkedWith g d k (telling (at + n - 1) (h .why))) less-is) window-is
+            (n - 1) (omega arith) (feed-stops st rest left (inv .so-far .valid .gatherer-valid .count-lt) share (inv .share-is) completes (h .why) (stopped .0) some) (back-is ∙ ap (λ (l : List ℕ). take behind out ++ l) bytes-are)
+
+  -- none ends
+  pub walk-ends : share .completes ≡ false → (last : Walked) → Ended g d (take (length block - at) rest) (telling (length block) 0) last →
+      WalkIs st₀ block lent s w last out
+  walk-ends leaves last ended =
+      let all-is : partOf (take (length block - at) rest) ≡ partOf rest = ap partOf (rest-is at block) in
+      let below : g .count + length rest < s .samples = inv .within .below leaves in
+      let bound : partOf rest .squares ≤ length rest * 2 ^ 30 = omega (arith, ended .1, ap (λ (k : Part). k .squares) all-is, ap (λ (k : Part). k .count) all-is) in
+      walk-last last (partOf rest) (length block) 0 w out (record { count-le = omega arith; squares-le = bound }) below (ended .0 ∙ ap (λ (k : Part). walkedWith g d k (telling (length block) 0)) all-is) refl
+      (length rest) (omega (arith, length-drop at block, inv .so-far .at-in))
+      (feed-rest st rest left (inv .so-far .valid .gatherer-valid .count-lt) share (inv .share-is) leaves) (sym (take-append-drop behind out))

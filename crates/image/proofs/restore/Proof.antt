@@ -1,0 +1,292 @@
+-- Behind each call stands what restore leaves by that call's answer, and each way out is one of the answers.
+use mathlib.Core.Path.{_≡_, sym, _∙_, ap}
+use mathlib.Core.List.{List}
+use Prim.Native.Nat.{ℕ}
+use borrow.Author.Needs.{needs}
+use Rattle.settings.specs.declared.Settings.{Settings}
+use Rattle.reading.specs.Restore.{part}
+use Rattle.rms.specs.declared.Gatherer.{Gatherer}
+use Rattle.state.specs.declared.State.{State}
+use Rattle.state.specs.State.{stateWith}
+use Rattle.bodies.specs.declared.Verdict.{Verdict}
+use Rattle.bodies.specs.declared.GathererRead.{GathererRead}
+use Rattle.bodies.specs.declared.WindowRead.{WindowRead}
+use Rattle.bodies.specs.declared.DetectorRead.{DetectorRead}
+use Rattle.bodies.specs.Bodies.{gathererAnswer, windowAt, windowAnswer}
+use Rattle.image.specs.declared.Acceptance.the-variants.{Accepted}
+use Rattle.image.specs.declared.Restored.{Restored}
+use Rattle.image.specs.Image.{restoredBy}
+use Rattle.image.proofs.SectionBySection.{by-table, by-settings, by-gatherer, by-window, by-detector, right-length, other-length}
+use Rattle.image.proofs.restore.Statement.{statement}
+use Rattle.image.proofs.restore.Tie as tie
+
+module _ (c : tie.After-read-table) where
+  abbrev old : State
+  old = c .before .before .before .before .args .old
+
+  abbrev image : List ℕ
+  image = c .before .before .before .before .args .bytes .now
+
+  at-table : restoredBy old image ≡ by-table old image (c .read-table .result)
+  at-table = right-length old image (c .before .before .if1 .left) ∙ ap (by-table old image) (sym (c .read-table .ensures))
+
+module _ (c : tie.After-from-bytes) where
+  abbrev table : tie.After-read-table
+  table = c .before .before .before .before
+
+  at-settings : restoredBy (old table) (image table) ≡ by-settings (old table) (image table) (c .from-bytes .result)
+  at-settings =
+      at-table table
+      ∙ ap (by-table (old table) (image table)) (c .before .before .enum-told .given .1)
+      ∙ ap (by-settings (old table) (image table)) (sym (c .from-bytes .ensures))
+
+module _ (c : tie.After-read-gatherer) where
+  abbrev read : tie.After-settings
+  read = c .before .before .before .before
+
+  abbrev first : tie.After-read-table
+  first = table (read .before .before)
+
+  abbrev settings : Settings
+  settings = read .settings .given .0 .0
+
+  abbrev by-read : ℕ → GathererRead → Restored
+  by-read = by-gatherer (old first) (image first) settings
+
+  at-gatherer : restoredBy (old first) (image first) ≡ by-read (c .before .before .get-u32 .result) (c .read-gatherer .result)
+  at-gatherer =
+      at-settings (read .before .before)
+      ∙ ap (by-settings (old first) (image first)) (read .settings .given .1)
+      ∙ ap (λ (v : ℕ). by-read v (gathererAnswer settings v (part 68 24 (image first)))) (sym (c .before .before .get-u32 .ensures))
+      ∙ ap (by-read (c .before .before .get-u32 .result)) (sym (c .read-gatherer .ensures))
+
+module _ (c : tie.After-read-window) where
+  abbrev g : tie.After-read-gatherer
+  g = c .before .before .before .before .before
+
+  abbrev gatherer : Gatherer
+  gatherer = c .before .before .before .gatherer .given .0 .0
+
+  abbrev by-verdict : Verdict → Restored
+  by-verdict = by-window (old (first g)) (image (first g)) (settings g) (g .before .before .get-u32 .result) gatherer
+
+  at-window : restoredBy (old (first g)) (image (first g)) ≡ by-verdict (c .read-window .result .verdict)
+  at-window =
+      at-gatherer g
+      ∙ ap (by-read g (g .before .before .get-u32 .result)) (c .before .before .before .gatherer .given .1)
+      ∙ ap (λ (r : WindowRead). by-verdict (r .verdict)) (sym (c .read-window .ensures))
+
+  window-is : c .read-window .result .window ≡ windowAt (part 92 484 (image (first g)))
+  unfolding windowAnswer
+  window-is = ap (λ (r : WindowRead). r .window) (c .read-window .ensures)
+
+module _ (c : tie.After-read-detector) where
+  abbrev w : tie.After-read-window
+  w = c .before .before .before .before .before
+
+  abbrev by-answer : DetectorRead → Restored
+  by-answer = by-detector (old (first (g w))) (image (first (g w))) (settings (g w)) (gatherer w)
+
+  at-detector : restoredBy (old (first (g w))) (image (first (g w))) ≡ by-answer (c .read-detector .result)
+  at-detector = at-window w ∙ ap (by-verdict w) (c .before .before .enum-told5 .given .1) ∙ ap by-answer (sym (c .read-detector .ensures))
+
+refused-requires : tie.Need-refused-requires
+refused-requires c κs = search needs
+
+returns : tie.Need-returns
+returns c =
+    let start = c .before .before .before in
+    c .refused .ensures ∙ sym (other-length (start .args .old) (start .args .bytes .now) (c .before .if1 .taken))
+
+sub-read-table : tie.Need-sub-read-table
+sub-read-table c = search needs
+
+part-read-table-start : tie.Need-part-read-table-start
+part-read-table-start c = search needs
+
+part-read-table-end : tie.Need-part-read-table-end
+part-read-table-end c = search needs
+
+read-table-requires : tie.Need-read-table-requires
+read-table-requires c κs = search needs
+
+enum-told : tie.Need-enum-told
+enum-told c = search needs
+
+enum-told-2 : tie.Need-enum-told-2
+enum-told-2 c = search needs
+
+refused-requires-2 : tie.Need-refused-requires-2
+refused-requires-2 c κs = search needs
+
+returns-2 : tie.Need-returns-2
+returns-2 c =
+    let t = c .before .before .before in
+    c .refused2 .ensures ∙ sym (at-table t ∙ ap (by-table (old t) (image t)) (c .before .enum-told2 .given .1))
+
+sub-from-bytes : tie.Need-sub-from-bytes
+sub-from-bytes c = search needs
+
+part-from-bytes-start : tie.Need-part-from-bytes-start
+part-from-bytes-start c = search needs
+
+part-from-bytes-end : tie.Need-part-from-bytes-end
+part-from-bytes-end c = search needs
+
+from-bytes-requires : tie.Need-from-bytes-requires
+from-bytes-requires c κs = search needs
+
+enum-known-settings : tie.Need-enum-known-settings
+enum-known-settings c = search needs
+
+enum-told-3 : tie.Need-enum-told-3
+enum-told-3 c = search needs
+
+refused-requires-3 : tie.Need-refused-requires-3
+refused-requires-3 c κs = search needs
+
+returns-3 : tie.Need-returns-3
+returns-3 c =
+    let s = c .before .before .before in
+    c .refused3 .ensures ∙ sym (at-settings s ∙ ap (by-settings (old (table s)) (image (table s))) (c .before .enum-told3 .given .1))
+
+get-u32-requires : tie.Need-get-u32-requires
+get-u32-requires c κs = search needs
+
+cast-values : tie.Need-cast-values
+cast-values c = search needs
+
+sub-read-gatherer : tie.Need-sub-read-gatherer
+sub-read-gatherer c = search needs
+
+part-read-gatherer-start : tie.Need-part-read-gatherer-start
+part-read-gatherer-start c = search needs
+
+part-read-gatherer-end : tie.Need-part-read-gatherer-end
+part-read-gatherer-end c = search needs
+
+read-gatherer-requires : tie.Need-read-gatherer-requires
+read-gatherer-requires c κs = search needs
+
+enum-known-gatherer : tie.Need-enum-known-gatherer
+enum-known-gatherer c = search needs
+
+enum-told-4 : tie.Need-enum-told-4
+enum-told-4 c = search needs
+
+refused-requires-4 : tie.Need-refused-requires-4
+refused-requires-4 c κs = search needs
+
+returns-4 : tie.Need-returns-4
+returns-4 c =
+    let g = c .before .before .before in
+    c .refused4 .ensures ∙ sym (at-gatherer g ∙ ap (by-read g (g .before .before .get-u32 .result)) (c .before .enum-told4 .given .1))
+
+sub-read-window : tie.Need-sub-read-window
+sub-read-window c = search needs
+
+part-read-window-start : tie.Need-part-read-window-start
+part-read-window-start c = search needs
+
+part-read-window-end : tie.Need-part-read-window-end
+part-read-window-end c = search needs
+
+read-window-requires : tie.Need-read-window-requires
+read-window-requires c κs = search needs
+
+enum-told-5 : tie.Need-enum-told-5
+enum-told-5 c = search needs
+
+enum-told-6 : tie.Need-enum-told-6
+enum-told-6 c = search needs
+
+refused-requires-5 : tie.Need-refused-requires-5
+refused-requires-5 c κs = search needs
+
+returns-5 : tie.Need-returns-5
+returns-5 c =
+    let w = c .before .before .before .before in
+    c .refused5 .ensures ∙ sym (at-window w ∙ ap (by-verdict w) (c .before .enum-told6 .given .1))
+
+sub-read-detector : tie.Need-sub-read-detector
+sub-read-detector c = search needs
+
+part-read-detector-start : tie.Need-part-read-detector-start
+part-read-detector-start c = search needs
+
+part-read-detector-end : tie.Need-part-read-detector-end
+part-read-detector-end c = search needs
+
+read-detector-requires : tie.Need-read-detector-requires
+read-detector-requires c κs = search needs
+
+enum-known-detector : tie.Need-enum-known-detector
+enum-known-detector c = search needs
+
+enum-told-7 : tie.Need-enum-told-7
+enum-told-7 c = search needs
+
+refused-requires-6 : tie.Need-refused-requires-6
+refused-requires-6 c κs = search needs
+
+returns-6 : tie.Need-returns-6
+returns-6 c =
+    let d = c .before .before .before in
+    c .refused6 .ensures ∙ sym (at-detector d ∙ ap (by-answer d) (c .before .enum-told7 .given .1))
+
+returns-7 : tie.Need-returns-7
+returns-7 c =
+    let read = c .before in
+    let d = read .before .before in
+    (λ i. record { answer = Accepted; state = stateWith (settings (g (w d))) (gatherer (w d)) (read .detector .given .0 .0) (window-is (w d) i) })
+    ∙ sym (at-detector d ∙ ap (by-answer d) (read .detector .given .1))
+
+pub restore-spec : {M : Type 1} → statement M
+restore-spec =
+    tie.close
+    (tie.spec
+    refused-requires
+    returns
+    sub-read-table
+    part-read-table-start
+    part-read-table-end
+    read-table-requires
+    enum-told
+    enum-told-2
+    refused-requires-2
+    returns-2
+    sub-from-bytes
+    part-from-bytes-start
+    part-from-bytes-end
+    from-bytes-requires
+    enum-known-settings
+    enum-told-3
+    refused-requires-3
+    returns-3
+    get-u32-requires
+    cast-values
+    sub-read-gatherer
+    part-read-gatherer-start
+    part-read-gatherer-end
+    read-gatherer-requires
+    enum-known-gatherer
+    enum-told-4
+    refused-requires-4
+    returns-4
+    sub-read-window
+    part-read-window-start
+    part-read-window-end
+    read-window-requires
+    enum-told-5
+    enum-told-6
+    refused-requires-5
+    returns-5
+    sub-read-detector
+    part-read-detector-start
+    part-read-detector-end
+    read-detector-requires
+    enum-known-detector
+    enum-told-7
+    refused-requires-6
+    returns-6
+    returns-7)

@@ -1,0 +1,118 @@
+-- The five sections stand in their parts, one behind the other; a shorter buffer stays as it was.
+use mathlib.Core.Path.{_≡_}
+use lib.ListN.{length}
+use borrow.Author.Needs.{needs}
+use Rattle.image.proofs.SavedBytes.{short-saved, long-saved}
+use Rattle.image.proofs.save.Statement.{statement}
+use Rattle.image.proofs.save.Tie as tie
+
+returns : tie.Need-returns
+returns c = let start = c .before .before in short-saved (start .args .image .now) (start .args .state) (c .if1 .taken)
+
+sub-put-table : tie.Need-sub-put-table
+sub-put-table c = search needs
+
+part-put-table-start : tie.Need-part-put-table-start
+part-put-table-start c = search needs
+
+part-put-table-end : tie.Need-part-put-table-end
+part-put-table-end c = search needs
+
+put-table-requires : tie.Need-put-table-requires
+put-table-requires c κs = search needs
+
+sub-write : tie.Need-sub-write
+sub-write c = search needs
+
+part-write-start : tie.Need-part-write-start
+part-write-start c = search needs
+
+part-write-end : tie.Need-part-write-end
+part-write-end c = search needs
+
+write-requires : tie.Need-write-requires
+write-requires c κs = search needs
+
+sub-put-gatherer : tie.Need-sub-put-gatherer
+sub-put-gatherer c = search needs
+
+part-put-gatherer-start : tie.Need-part-put-gatherer-start
+part-put-gatherer-start c = search needs
+
+part-put-gatherer-end : tie.Need-part-put-gatherer-end
+part-put-gatherer-end c = search needs
+
+put-gatherer-requires : tie.Need-put-gatherer-requires
+put-gatherer-requires c κs = search needs
+
+sub-put-values : tie.Need-sub-put-values
+sub-put-values c = search needs
+
+part-put-values-start : tie.Need-part-put-values-start
+part-put-values-start c = search needs
+
+part-put-values-end : tie.Need-part-put-values-end
+part-put-values-end c = search needs
+
+slice-aggregate-put-values : tie.Need-slice-aggregate-put-values
+slice-aggregate-put-values c = search needs
+
+put-values-requires : tie.Need-put-values-requires
+put-values-requires c κs = search needs
+
+sub-put-detector : tie.Need-sub-put-detector
+sub-put-detector c = search needs
+
+part-put-detector-start : tie.Need-part-put-detector-start
+part-put-detector-start c = search needs
+
+part-put-detector-end : tie.Need-part-put-detector-end
+part-put-detector-end c = search needs
+
+put-detector-requires : tie.Need-put-detector-requires
+put-detector-requires c κs = search needs
+
+same-length : tie.Need-same-length
+same-length c = search needs
+
+returns-2 : tie.Need-returns-2
+returns-2 c =
+    let put-5 = c .before .before in
+    let put-4 = put-5 .before .before .before .before in
+    let put-3 = put-4 .before .before .before .before .before in
+    let put-2 = put-3 .before .before .before .before in
+    let put-1 = put-2 .before .before .before .before in
+    let tested = put-1 .before .before .before .before .before .before in
+    let st = tested .before .before .args .state in
+    let size : length (st .window) ≡ 120 = put-values-requires (put-4 .before) (put-4 .put-values .lifetimes) .1 in
+    long-saved (tested .before .before .args .image .now) st (tested .if1 .left) size _ _ _ _ _ (put-1 .put-table .ensures) (put-2 .write .ensures)
+    (put-3 .put-gatherer .ensures) (put-4 .put-values .ensures) (put-5 .put-detector .ensures)
+
+pub save-spec : {M : Type 1} → statement M
+save-spec =
+    tie.close
+    (tie.spec
+    returns
+    sub-put-table
+    part-put-table-start
+    part-put-table-end
+    put-table-requires
+    sub-write
+    part-write-start
+    part-write-end
+    write-requires
+    sub-put-gatherer
+    part-put-gatherer-start
+    part-put-gatherer-end
+    put-gatherer-requires
+    sub-put-values
+    part-put-values-start
+    part-put-values-end
+    slice-aggregate-put-values
+    put-values-requires
+    sub-put-detector
+    part-put-detector-start
+    part-put-detector-end
+    put-detector-requires
+    same-length
+    returns-2)

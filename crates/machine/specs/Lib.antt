@@ -1,6 +1,0 @@
-pub mod Step
-pub mod StepValid
-pub mod StepFollows
-pub mod StepHalf
-pub mod Calls
-pub mod HalfFeeds

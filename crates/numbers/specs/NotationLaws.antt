@@ -1,0 +1,51 @@
+-- The laws of the notation: what conjunctions and disjunctions of tests say, and what a chain of refusals answers.
+use mathlib.Core.Path.{_≡_, refl, ap}
+use mathlib.Core.Bool.{Bool, true, false, not, _&&_, _||_}
+use Prim.Native.Nat.{ℕ, _<_}
+use native.Mathlib.Omega.{arith}
+use Rattle.numbers.specs.Notation.{refuse_unless_then_}
+
+pub and-true : {a b : Bool} → a ≡ true → b ≡ true → (a && b) ≡ true
+and-true p q = λ i. p i && q i
+
+pub and-left : (a b : Bool) → (a && b) ≡ true → a ≡ true
+and-left true b e = refl
+and-left false b e = e
+
+pub and-right : (a b : Bool) → (a && b) ≡ true → b ≡ true
+and-right true b e = e
+and-right false b e = let z : _≡_ {A = ℕ} 0 1 = cc in absurd (omega arith)
+
+-- what the first test of a conjunction or a disjunction leaves of it
+pub and-fails : {a : Bool} (b : Bool) → a ≡ false → (a && b) ≡ false
+and-fails b e = ap (λ (a : Bool). a && b) e
+
+pub and-passes : {a : Bool} (b : Bool) → a ≡ true → (a && b) ≡ b
+and-passes b e = ap (λ (a : Bool). a && b) e
+
+pub or-fails : {a : Bool} (b : Bool) → a ≡ false → (a || b) ≡ b
+or-fails b e = ap (λ (a : Bool). a || b) e
+
+pub or-passes : {a : Bool} (b : Bool) → a ≡ true → (a || b) ≡ true
+or-passes b e = ap (λ (a : Bool). a || b) e
+
+-- a test that asks for another
+pub implied : (a b : Bool) → (not a || b) ≡ true → a ≡ true → b ≡ true
+implied true b e p = e
+implied false b e p = let z : _≡_ {A = ℕ} 0 1 = cc in absurd (omega arith)
+
+pub imply : (a b : Bool) → (a ≡ true → b ≡ true) → (not a || b) ≡ true
+imply true b f = f refl
+imply false b f = refl
+
+-- a test that fails gives its refusal, and one that passes gives the rest
+pub refuse-fails : (n : ℕ) {t : Bool} (rest : ℕ) → t ≡ false → (refuse n unless t then rest) ≡ n
+refuse-fails n rest e = ap (λ (t : Bool). refuse n unless t then rest) e
+
+pub refuse-passes : (n : ℕ) {t : Bool} (rest : ℕ) → t ≡ true → (refuse n unless t then rest) ≡ rest
+refuse-passes n rest e = ap (λ (t : Bool). refuse n unless t then rest) e
+
+-- where nothing is refused, the test passed and the rest refuses nothing
+pub refuse-none : (n : ℕ) (t : Bool) (rest : ℕ) → 0 < n → (refuse n unless t then rest) ≡ 0 → (t ≡ true) × (rest ≡ 0)
+refuse-none n true rest h e = (refl, e)
+refuse-none n false rest h e = absurd (omega arith)

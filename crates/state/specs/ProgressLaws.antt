@@ -1,0 +1,164 @@
+-- A feed in progress: what is fed so far of a block, and what is left of it and of the lent buffer. Half-cycles and chunks join it alike, each with its records
+-- behind those written before.
+use mathlib.Core.Path.{_≡_, refl, sym, _∙_, ap, subst}
+use mathlib.Core.Bool.{Bool, false}
+use mathlib.Core.List.{List, [], _++_, append-nil}
+use Prim.Native.Nat.{ℕ, _+_, _-_, _*_, _≤_, _<_}
+use native.Mathlib.Omega.{arith}
+use lib.ListN.{length, take, drop, length-append, length-drop, take-append-drop}
+use lib.Seq.{drop-drop, drop-length, take-all, length-take-le}
+use lib.IntN.{ℤ}
+use borrow.Author.Tests.{ne-eqb}
+use borrow.Rule.Slice.PartMut.{putMid, post-is}
+use Rattle.numbers.specs.Notation.{_≡ᵇ_, if_then_else_}
+use Rattle.reading.specs.declared.Event.{Event}
+use Rattle.reading.specs.declared.Told.{Told}
+use Rattle.reading.specs.Records.{recordBytes}
+use Rattle.reading.specs.Feed.{Outcome}
+use Rattle.reading.specs.Engineer.{over, room}
+use Rattle.records.specs.DueLaws.{placed-records}
+use Rattle.greedy.specs.Greedy.{Run, joined, fedBy}
+use Rattle.greedy.specs.GreedyLaws.{Bounded, andThen, joined-joined, fedBy-append, fedBy-bounded}
+use Rattle.state.specs.declared.State.{State}
+use Rattle.state.specs.State.{ValidState}
+use Rattle.state.specs.Step.{machine}
+use Rattle.state.specs.Calls.{outcomeOf, fedWith}
+
+-- the buffer behind place k, lent and back
+pub lent-behind : (k : ℕ) (out : List ℕ) → take (length out - k) (drop k out) ≡ drop k out
+lent-behind k out = take-all (length out - k) (drop k out) (omega (arith, length-drop k out))
+
+pub back-behind : (k : ℕ) (out part : List ℕ) → k ≤ length out → putMid k (length out - k) out part ≡ take k out ++ part
+back-behind k out part h =
+    let none : drop (length out - k) (drop k out) ≡ [] = post-is k (length out) out h ∙ drop-length out in
+    ap (λ (r : List ℕ). take k out ++ (part ++ r)) none ∙ ap (λ (r : List ℕ). take k out ++ r) (append-nil part)
+
+module _ (st₀ : State) (block : List ℤ) (lent : List ℕ) where
+  pub record Progress (st : State) (at written : ℕ) (out : List ℕ) : Type 0 where
+    pub events : List Event
+    pub valid : ValidState st
+    pub at-in : at ≤ length block
+    pub fits : written ≤ room lent
+    pub fed : fedBy machine st₀ block (room lent) ≡ joined at events (fedBy machine st (drop at block) (room lent - written))
+    pub count : written ≡ length events
+    pub bytes : out ≡ over (recordBytes events) lent
+
+pub progress-none : (st : State) (block : List ℤ) (lent : List ℕ) → ValidState st → Progress st block lent st 0 0 lent
+progress-none st block lent ok =
+    let c : (k : ℕ) → k ≡ 0 + k = λ k. omega arith in
+    let r : room lent ≡ room lent - 0 = omega arith in
+    let f : Run State = fedBy machine st block (room lent - 0) in
+    record {
+      events = [];
+      valid = ok;
+      at-in = omega arith;
+      fits = omega arith;
+      fed = ap (fedBy machine st block) r ∙ (λ i. record { after = f .after; taken = c (f .taken) i; events = f .events; why = f .why });
+      count = refl;
+      bytes = refl;
+    }
+
+module _ {st₀ : State} {block : List ℤ} {lent : List ℕ} {st : State} {at written : ℕ} {out : List ℕ} (so-far : Progress st₀ block lent st at written out) where
+  -- n samples more, with the events es, and then the rest
+  pub progress-more : (n : ℕ) (es : List Event) (st₁ : State) (out₁ : List ℕ) → at + n ≤ length block → length es ≤ room lent - written → ValidState st₁ →
+      fedBy machine st (drop at block) (room lent - written) ≡ joined n es (fedBy machine st₁ (drop n (drop at block)) (room lent - written - length es)) →
+      out₁ ≡ take (20 * written) out ++ over (recordBytes es) (drop (20 * written) out) → Progress st₀ block lent st₁ (at + n) (written + length es) out₁
+  progress-more n es st₁ out₁ inside few ok step bytes-are =
+      let c : written ≡ length (so-far .events) = so-far .count in
+      let f : written ≤ room lent = so-far .fits in
+      let later : room lent - written - length es ≡ room lent - (written + length es) = omega arith in
+      record {
+        events = so-far .events ++ es;
+        valid = ok;
+        at-in = inside;
+        fits = omega arith;
+        fed =
+            so-far .fed
+            ∙ ap (joined at (so-far .events)) step
+            ∙ joined-joined machine at n (so-far .events) es (fedBy machine st₁ (drop n (drop at block)) (room lent - written - length es))
+            ∙ (λ i. joined (at + n) (so-far .events ++ es) (fedBy machine st₁ (drop-drop n at block i) (later i)));
+        count = omega (arith, length-append (so-far .events) es);
+        bytes = bytes-are ∙ placed-records (20 * written) (so-far .events) es lent out (omega arith) (so-far .bytes);
+      }
+
+  -- where it ends: what the rest gives is all
+  pub progress-last : (r : Run State) (out₁ : List ℕ) → fedBy machine st (drop at block) (room lent - written) ≡ r →
+      out₁ ≡ take (20 * written) out ++ over (recordBytes (r .events)) (drop (20 * written) out) →
+      record { after = r .after; told = record { taken = at + r .taken; written = written + length (r .events); why = r .why }; bytes = out₁ } ≡ fedWith st₀ block lent
+  unfolding fedWith
+  progress-last r out₁ last bytes-are =
+      let c : written ≡ length (so-far .events) = so-far .count in
+      let n : written + length (r .events) ≡ length (so-far .events ++ r .events) = omega (arith, length-append (so-far .events) (r .events)) in
+      let b : out₁ ≡ over (recordBytes (so-far .events ++ r .events)) lent =
+      bytes-are ∙ placed-records (20 * written) (so-far .events) (r .events) lent out (omega arith) (so-far .bytes) in
+      (λ i. record { after = r .after; told = record { taken = at + r .taken; written = n i; why = r .why }; bytes = b i })
+      ∙ sym (ap (outcomeOf lent) (so-far .fed ∙ ap (joined at (so-far .events)) last))
+
+  -- a chunk of the block, fed with the buffer behind the records written so far
+  module _ (n : ℕ) (inside : at + n ≤ length block) (long : length out ≡ length lent) {end : State} {told : Told} {part : List ℕ} (ok : ValidState end)
+      (is : record { after = end; told = told; bytes = part } ≡ fedWith st (take n (drop at block)) (drop (20 * written) out)) where
+    abbrev left : ℕ
+    left = room lent - written
+
+    abbrev chunk : List ℤ
+    chunk = take n (drop at block)
+
+    abbrev run : Run State
+    run = fedBy machine st chunk left
+
+    bounded : Bounded chunk left run
+    bounded = fedBy-bounded machine chunk st left
+
+    chunk-long : length chunk ≡ n
+    chunk-long = length-take-le n (drop at block) (omega (arith, length-drop at block))
+
+    run-is : record { after = end; told = told; bytes = part } ≡ outcomeOf (drop (20 * written) out) run
+    unfolding fedWith
+    run-is =
+        let room-is : room (drop (20 * written) out) ≡ left = omega (arith, length-drop (20 * written) out, so-far .fits) in
+        is ∙ ap (λ (k : ℕ). outcomeOf (drop (20 * written) out) (fedBy machine st chunk k)) room-is
+
+    told-is : told ≡ record { taken = run .taken; written = length (run .events); why = run .why }
+    told-is = ap (λ (o : Outcome State). o .told) run-is
+
+    bytes-are : (out₁ : List ℕ) → out₁ ≡ take (20 * written) out ++ part → out₁ ≡ take (20 * written) out ++ over (recordBytes (run .events)) (drop (20 * written) out)
+    bytes-are out₁ e = e ∙ ap (λ (o : Outcome State). take (20 * written) out ++ o .bytes) run-is
+
+    both : fedBy machine st (drop at block) left ≡ andThen machine run (drop n (drop at block)) left
+    both = ap (λ (b : List ℤ). fedBy machine st b left) (sym (take-append-drop n (drop at block))) ∙ fedBy-append machine chunk st (drop n (drop at block)) left
+
+    -- what the code adds up stays in the block and in the room
+    pub chunk-taken : told .taken ≤ n
+    chunk-taken = omega (arith, ap (λ (t : Told). t .taken) told-is, bounded .most, chunk-long)
+
+    pub chunk-fits : written + told .written ≤ room lent
+    chunk-fits = omega (arith, ap (λ (t : Told). t .written) told-is, bounded .fits, so-far .fits)
+
+    -- it is taken whole
+    pub chunk-more : told .why ≡ 0 → (out₁ : List ℕ) → out₁ ≡ take (20 * written) out ++ part → Progress st₀ block lent end (at + n) (written + told .written) out₁
+    chunk-more none out₁ e =
+        let whole : run .why ≡ 0 = sym (ap (λ (t : Told). t .why) told-is) ∙ none in
+        let count : run .taken ≡ n = bounded .whole whole ∙ chunk-long in
+        let rest : List ℤ = drop n (drop at block) in
+        let after-is : run .after ≡ end = sym (ap (λ (o : Outcome State). o .after) run-is) in
+        let step : fedBy machine st (drop at block) left ≡ joined n (run .events) (fedBy machine end rest (left - length (run .events))) =
+        both
+        ∙ ap (λ (y : ℕ). if y ≡ᵇ 0 then joined (run .taken) (run .events) (fedBy machine (run .after) rest (left - length (run .events))) else run) whole
+        ∙ (λ i. joined (count i) (run .events) (fedBy machine (after-is i) rest (left - length (run .events)))) in
+        subst (λ (k : ℕ). Progress st₀ block lent end (at + n) (written + k) out₁) (sym (ap (λ (t : Told). t .written) told-is))
+        (progress-more n (run .events) end out₁ inside (bounded .fits) ok step (bytes-are out₁ e))
+
+    -- it is not, and so is the end
+    pub chunk-last : 0 < told .why → (out₁ : List ℕ) → out₁ ≡ take (20 * written) out ++ part →
+        record { after = end; told = record { taken = at + told .taken; written = written + told .written; why = told .why }; bytes = out₁ } ≡ fedWith st₀ block lent
+    chunk-last some out₁ e =
+        let rest : List ℤ = drop n (drop at block) in
+        let stops : (run .why ≡ᵇ 0) ≡ false = ne-eqb (run .why) 0 (λ z. omega (arith, ap (λ (t : Told). t .why) told-is)) in
+        (λ i. record {
+          after = run-is i .after;
+          told = record { taken = at + told-is i .taken; written = written + told-is i .written; why = told-is i .why };
+          bytes = out₁;
+        })
+        ∙ progress-last run out₁
+        (both ∙ ap (λ (b : Bool). if b then joined (run .taken) (run .events) (fedBy machine (run .after) rest (left - length (run .events))) else run) stops)
+        (bytes-are out₁ e)

@@ -1,0 +1,64 @@
+-- What a logger keeps: of a fresh one, of one that a recording leaves, what look tells of it, and what refusal 11 allows.
+use mathlib.Core.Path.{_≡_}
+use mathlib.Core.Bool.{false}
+use mathlib.Core.List.{List}
+use Prim.Native.Nat.{ℕ, _-_, _≤_, min}
+use lib.ListN.{replicate, getD}
+use lib.IntN.{ℤ}
+use Rattle.numbers.specs.Notation.{_<ᵇ_, if_then_else_}
+use Rattle.settings.specs.declared.Settings.{Settings}
+use Rattle.settings.specs.Settings.{windowLength, ValidSettings}
+use Rattle.reading.specs.declared.Readings.{Readings}
+use Rattle.reading.specs.Values.{values}
+use Rattle.reading.specs.Changes.{windowSum}
+use Rattle.reading.specs.Feed.{lastValue}
+use Rattle.rms.specs.declared.Gatherer.{Gatherer}
+use Rattle.rms.specs.Gather.{noSample, gathererOf, ValidGatherer}
+use Rattle.window.specs.Window.{windowOf, ValidWindow}
+use Rattle.rvc.specs.declared.Phase.{Phase}
+use Rattle.rvc.specs.declared.Phase.the-variants.{Filling, Unsettled, Steady, Changing}
+use Rattle.detection.specs.declared.Detector.{Detector}
+use Rattle.detection.specs.Detection.{noValue, detectorOf, ValidDetector}
+use Rattle.state.specs.declared.State.{State}
+
+-- a fresh logger: it has taken no sample
+unfoldable pub fresh : Settings → State
+fresh s = record { settings = s; gatherer = noSample; detector = noValue; window = replicate 120 0 }
+
+-- a state in the parts that the code keeps it in
+abbrev pub stateWith : Settings → Gatherer → Detector → List ℕ → State
+stateWith s g d w = record { settings = s; gatherer = g; detector = d; window = w }
+
+-- the state that a recording leaves
+abbrev pub stateOf : Settings → List ℤ → State
+stateOf s rec = stateWith s (gathererOf s rec) (detectorOf s (values s rec)) (windowOf (windowLength s) (values s rec))
+
+-- look
+abbrev pub phaseNumberOf : Phase → ℕ
+phaseNumberOf Filling = 0
+phaseNumberOf Unsettled = 1
+phaseNumberOf Steady = 2
+phaseNumberOf (Changing c) = 3
+
+unfoldable pub readingsOf : State → Readings
+readingsOf st =
+    let n = windowLength (st .settings) in
+    let v = st .detector .count in
+    record {
+      count = v;
+      value = getD (st .window) (min v n - 1) 0;
+      sum = if v <ᵇ n then 0 else windowSum (st .settings) (st .window);
+      phase = phaseNumberOf (st .detector .phase);
+      dip = 0 <ᵇ st .detector .dip .start;
+      swell = 0 <ᵇ st .detector .swell .start;
+      interruption = 0 <ᵇ st .detector .interruption .start;
+    }
+
+-- what refusal 11 and valid settings allow: the invariant of a logger
+pub record ValidState (st : State) : Type 0 where
+  pub settings-valid : ValidSettings (st .settings)
+  pub gatherer-valid : ValidGatherer (st .settings .samples) (st .gatherer)
+  pub detector-valid : ValidDetector (windowLength (st .settings)) (st .detector)
+  pub window-valid : ValidWindow (windowLength (st .settings)) (st .detector .count) (st .window)
+  pub count-le : st .detector .count ≤ lastValue
+  pub none-whole : st .gatherer .whole ≡ false → st .detector .count ≡ 0

@@ -1,0 +1,69 @@
+-- What samples do to a logger's state, from the state only: a part of a half-cycle, the part that ends one, one sample.
+use mathlib.Core.Bool.{Bool, false}
+use mathlib.Core.List.{List, [], _∷_, _++_}
+use Prim.Native.Nat.{ℕ, _+_}
+use lib.ListN.{length}
+use lib.IntN.{ℤ}
+use Rattle.numbers.specs.Notation.{_<ᵇ_, if_then_else_}
+use Rattle.settings.specs.Settings.{windowLength}
+use Rattle.reading.specs.declared.Event.{Event}
+use Rattle.reading.specs.Feed.{lastValue}
+use Rattle.rms.specs.declared.Part.{Part}
+use Rattle.rms.specs.declared.Gatherer.{Gatherer}
+use Rattle.rms.specs.Gather.{partOf, withPart, withHalf, endsWith, valueFrom}
+use Rattle.window.specs.Window.{pushed}
+use Rattle.detection.specs.Detection.{detectorAfter, dueAt}
+use Rattle.greedy.specs.Greedy.{Machine}
+use Rattle.state.specs.declared.State.{State}
+use Rattle.state.specs.State.{stateWith}
+
+-- one value more; values, newest first; the events due at them
+abbrev pub withValue : ℕ → State → State
+withValue r st =
+    stateWith (st .settings) (st .gatherer) (detectorAfter (st .settings) r (st .detector) (st .window))
+    (pushed (windowLength (st .settings)) (st .detector .count) (st .window) r)
+
+abbrev pub withValues : List ℕ → State → State
+withValues [] st = st
+withValues (r ∷ rs) st = withValue r (withValues rs st)
+
+abbrev pub dueOn : List ℕ → State → List Event
+dueOn [] st = []
+dueOn (r ∷ rs) st = dueOn rs st ++ dueAt (st .settings) r (withValues rs st .detector) (withValues rs st .window)
+
+-- another gatherer
+abbrev pub withGatherer : State → Gatherer → State
+withGatherer st g = stateWith (st .settings) g (st .detector) (st .window)
+
+-- a part more that leaves the half-cycle in progress
+abbrev pub partJoined : State → Part → State
+partJoined st p = withGatherer st (withPart (st .gatherer) p)
+
+-- a part that ends it: the value that comes out, if one does; whether that passes V's end; the events due at it; the state after it
+abbrev pub valueOut : State → Part → List ℕ
+valueOut st p = valueFrom (st .settings .samples) (st .gatherer) p
+
+unfoldable pub passesEnd : State → Part → Bool
+passesEnd st p = lastValue <ᵇ length (valueOut st p) + st .detector .count
+
+unfoldable pub dueWith : State → Part → List Event
+dueWith st p = dueOn (valueOut st p) st
+
+unfoldable pub halfJoined : State → Part → State
+halfJoined st p = withValues (valueOut st p) (withGatherer st (withHalf (st .gatherer) p))
+
+-- why such a part is not taken: 2 past V's end, 1 no room for its records; 0 where it is
+abbrev pub whyNot : State → Part → ℕ → ℕ
+whyNot st p room = if passesEnd st p then 2 else if room <ᵇ length (dueWith st p) then 1 else 0
+
+-- whether the next sample ends the half-cycle in progress
+abbrev pub ends : State → ℤ → Bool
+ends st x = endsWith (st .settings .samples) (st .gatherer) x
+
+-- sample by sample
+abbrev pub machine : Machine State
+machine = record {
+  atEnd = λ st x. if ends st x then passesEnd st (partOf (x ∷ [])) else false;
+  dueWith = λ st x. if ends st x then dueWith st (partOf (x ∷ [])) else [];
+  next = λ st x. if ends st x then halfJoined st (partOf (x ∷ [])) else partJoined st (partOf (x ∷ []));
+}
