@@ -6,7 +6,7 @@ use native.Mathlib.Omega.{arith}
 use lib.ListN.{length, drop, length-append, length-drop, drop-of-length-le}
 use borrow.Rule.Slice.PartMut.{putMid}
 use Rattle.octets.specs.Bytes.{bytesOf, words}
-use Rattle.octets.specs.Parts.{put-next}
+use Rattle.octets.specs.PartsLaws.{put-next}
 use Rattle.rms.specs.declared.Gatherer.{Gatherer}
 use Rattle.reading.specs.Image.{flag}
 use Rattle.bodies.specs.Bodies.{gathererBody, valuesBody}

@@ -28,8 +28,8 @@ use Rattle.detection.specs.declared.Detector.{Detector}
 use Rattle.detection.specs.Detection.{ValidDetector}
 use Rattle.bodies.specs.Bodies.{gathererBody, valuesBody, detectorNumbers, gathererAt, windowAt, phaseOfNumber, detectorAt}
 use Rattle.bodies.specs.Bodies.{gathererTest, earlyTest, changeTest, standingTest}
-use Rattle.bodies.specs.BodiesFacts.{GathererFacts, gatherer-facts, facts-gatherer, windowTest, window-facts, facts-window}
-use Rattle.bodies.specs.BodiesFacts.{facts-change, standing-facts, facts-standing, phase-facts}
+use Rattle.bodies.specs.BodiesValid.{GathererFacts, gatherer-facts, facts-gatherer, windowTest, window-facts, facts-window}
+use Rattle.bodies.specs.BodiesValid.{facts-change, standing-facts, facts-standing, phase-facts}
 
 -- parts of a list, put together again from the last on
 module _ (b : List ℕ) (o n : ℕ) (x : List ℕ) (is : x ≡ take n (drop o b)) where

@@ -1,3 +1,3 @@
 pub mod Bodies
-pub mod BodiesFacts
+pub mod BodiesValid
 pub mod BodiesLaws

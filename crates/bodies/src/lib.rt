@@ -173,25 +173,25 @@ fn all_up_to(places: &[u32], most: u32) -> bool
 }
 
 // How many places of the window are used.
-fn used(count: u64, size: u64) -> usize
-    requires { ⌜ size ≤ 120 ⌝ }
-    ensures { λ r. ⌜ (r ≡ min count size) × (r ≤ 120) ⌝ }
+fn used(count: u64, window_length: u64) -> usize
+    requires { ⌜ «window_length» ≤ 120 ⌝ }
+    ensures { λ r. ⌜ (r ≡ min count «window_length») × (r ≤ 120) ⌝ }
 {
-    if count <= size {
+    if count <= window_length {
         count as usize
     } else {
-        size as usize
+        window_length as usize
     }
 }
 
-fn window_good(window: &[u32], count: u64, size: u64) -> bool
-    requires { ⌜ (size ≤ 120) × (length (now window) ≡ 120) ⌝ }
-    ensures { λ r. ⌜ r ≡ (all (_≤ᵇ 524288) (now (window .entry)) && all (_≡ᵇ 0) (drop (min count size) (now (window .entry)))) ⌝ }
+fn window_good(window: &[u32], count: u64, window_length: u64) -> bool
+    requires { ⌜ («window_length» ≤ 120) × (length (now window) ≡ 120) ⌝ }
+    ensures { λ r. ⌜ r ≡ (all (_≤ᵇ 524288) (now (window .entry)) && all (_≡ᵇ 0) (drop (min count «window_length») (now (window .entry)))) ⌝ }
 {
     if !all_up_to(window, 524_288) {
         return false;
     }
-    let first_unused = used(count, size);
+    let first_unused = used(count, window_length);
     all_up_to(&window[first_unused..], 0)
 }
 
@@ -279,33 +279,33 @@ fn phase_of(number: u64, change: Change) -> Phase
 }
 
 // Whether the greatest difference is 0 where V < k + N. The start is at most `values`, so that no sum is needed, which could wrap.
-fn early_good(change: Change, size: u64, values: u64) -> bool
+fn early_good(change: Change, window_length: u64, values: u64) -> bool
     requires { ⌜ change .start ≤ values ⌝ }
-    ensures { λ r. ⌜ r ≡ earlyTest size values change ⌝ }
+    ensures { λ r. ⌜ r ≡ earlyTest «window_length» values change ⌝ }
 {
-    if size <= values - change.start {
+    if window_length <= values - change.start {
         return true;
     }
     change.difference == 0
 }
 
-fn change_good(change: Change, size: u64, values: u64) -> bool
-    requires { ⌜ size ≤ 120 ⌝ }
-    ensures { λ r. ⌜ r ≡ changeTest size values change ⌝ }
+fn change_good(change: Change, window_length: u64, values: u64) -> bool
+    requires { ⌜ «window_length» ≤ 120 ⌝ }
+    ensures { λ r. ⌜ r ≡ changeTest «window_length» values change ⌝ }
 {
-    if change.start <= size {
+    if change.start <= window_length {
         return false;
     }
     if values < change.start {
         return false;
     }
-    if size * 524_288 < change.sum {
+    if window_length * 524_288 < change.sum {
         return false;
     }
-    if size * 524_288 < change.difference {
+    if window_length * 524_288 < change.difference {
         return false;
     }
-    if !early_good(change, size, values) {
+    if !early_good(change, window_length, values) {
         return false;
     }
     if change.stand == 0 {
@@ -329,24 +329,24 @@ fn change_zero(change: Change) -> bool
     change.stand == 0
 }
 
-fn phase_good(number: u64, change: Change, size: u64, values: u64) -> bool
-    requires { ⌜ size ≤ 120 ⌝ }
-    ensures { λ r. ⌜ r ≡ phaseTest size values number change ⌝ }
+fn phase_good(number: u64, change: Change, window_length: u64, values: u64) -> bool
+    requires { ⌜ «window_length» ≤ 120 ⌝ }
+    ensures { λ r. ⌜ r ≡ phaseTest «window_length» values number change ⌝ }
 {
     if 3 < number {
         return false;
     }
     if number == 0 {
-        if size <= values {
+        if window_length <= values {
             return false;
         }
         return change_zero(change);
     }
-    if values < size {
+    if values < window_length {
         return false;
     }
     if number == 3 {
-        return change_good(change, size, values);
+        return change_good(change, window_length, values);
     }
     change_zero(change)
 }

@@ -1,4 +1,4 @@
 pub mod Text
 pub mod TextLaws
-pub mod Taken
-pub mod TakenLaws
+pub mod FedAll
+pub mod FedAllLaws

@@ -77,13 +77,13 @@ put-put t₀ t₁ t₂ at b₁ b₂ xs ys p q = record {
 
 -- bytes put one by one: the first i of them stand at the place
 module _ (t₀ : List ℕ) (at : ℕ) (b : List ℕ) where
-  abbrev pub Begun : ℕ → List ℕ → Type 0
-  Begun i t = take (at + i) t ≡ take at t₀ ++ take i b
+  abbrev pub PutSoFar : ℕ → List ℕ → Type 0
+  PutSoFar i t = take (at + i) t ≡ take at t₀ ++ take i b
 
-  pub put-none : Begun 0 t₀
+  pub put-none : PutSoFar 0 t₀
   put-none = let e : at + 0 ≡ at = omega arith in ap (λ (n : ℕ). take n t₀) e ∙ sym (append-nil (take at t₀))
 
-  pub put-one : (i : ℕ) (t : List ℕ) → at + i < length t → i < length b → Begun i t → Begun (i + 1) (set t (at + i) (getD b i 0))
+  pub put-one : (i : ℕ) (t : List ℕ) → at + i < length t → i < length b → PutSoFar i t → PutSoFar (i + 1) (set t (at + i) (getD b i 0))
   put-one i t h l e =
       let x : ℕ = getD b i 0 in
       let n : at + (i + 1) ≡ suc (at + i) = omega arith in
@@ -94,7 +94,7 @@ module _ (t₀ : List ℕ) (at : ℕ) (b : List ℕ) where
       ∙ append-assoc (take at t₀) (take i b) (x ∷ [])
       ∙ ap (λ (l : List ℕ). take at t₀ ++ l) (sym (take-suc b i 0 l) ∙ ap (λ (j : ℕ). take j b) k)
 
-  pub put-all : (i : ℕ) (t : List ℕ) → i ≡ length b → Begun i t → Put t₀ at b (at + i) t
+  pub put-all : (i : ℕ) (t : List ℕ) → i ≡ length b → PutSoFar i t → Put t₀ at b (at + i) t
   put-all i t whole e = record {
     behind-is = ap (λ (n : ℕ). at + n) whole;
     text-is = e ∙ ap (λ (l : List ℕ). take at t₀ ++ l) (take-all i b (omega arith));

@@ -14,7 +14,7 @@ ghost use Rattle.settings.specs.Settings.{ValidSettings};
 ghost use Rattle.samples.specs.Samples.{samplesOf};
 ghost use Rattle.state.specs.State.{ValidState};
 ghost use Rattle.event_log.specs.Text.{column, kindName, lineOf, linesOf, Put};
-ghost use Rattle.event_log.specs.Taken.{takenFrom};
+ghost use Rattle.event_log.specs.FedAll.{fedAllFrom};
 
 // The samples that are read at a time, of two bytes each.
 const CHUNK: usize = 1024;
@@ -30,7 +30,7 @@ const RECORD: usize = 20;
 const LINE: usize = 97;
 
 // The logger after samples, and why it took no more: 0 all taken, 2 V is at its end.
-struct Taken {
+struct FedAll {
     logger: Logger,
     why: u32,
 }
@@ -108,9 +108,9 @@ fn put_lines(text: &mut [u8], records: &[u8], count: usize) -> usize
 }
 
 // Feeds samples until all are taken or V is at its end, and prints the lines of their records.
-fn feed_all(logger: Logger, samples: &[i16]) -> Taken
+fn feed_all(logger: Logger, samples: &[i16]) -> FedAll
     requires { ⌜ ValidState (logger .state) ⌝ }
-    ensures { λ r. ⌜ (r ≡ takenFrom logger (now (samples .entry))) × ValidState (r .logger .state) ⌝ }
+    ensures { λ r. ⌜ (r ≡ fedAllFrom logger (now (samples .entry))) × ValidState (r .logger .state) ⌝ }
 {
     let mut records = [0u8; RECORD * RECORDS];
     let mut text = [0u8; LINE * RECORDS];
@@ -126,13 +126,13 @@ fn feed_all(logger: Logger, samples: &[i16]) -> Taken
         at += told.taken;
         why = told.why;
     }
-    Taken { logger: held, why }
+    FedAll { logger: held, why }
 }
 
 // Feeds the samples of a chunk; a last odd byte is none.
-fn feed_chunk(logger: Logger, bytes: &[u8]) -> Taken
+fn feed_chunk(logger: Logger, bytes: &[u8]) -> FedAll
     requires { ⌜ ValidState (logger .state) × (length (now bytes) ≤ 2048) ⌝ }
-    ensures { λ r. ⌜ (r ≡ takenFrom logger (samplesOf (now (bytes .entry)))) × ValidState (r .logger .state) ⌝ }
+    ensures { λ r. ⌜ (r ≡ fedAllFrom logger (samplesOf (now (bytes .entry)))) × ValidState (r .logger .state) ⌝ }
 {
     let count = bytes.len() / 2;
     let even = 2 * count;

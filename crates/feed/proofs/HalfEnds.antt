@@ -27,7 +27,7 @@ use Rattle.detection.specs.declared.Tried.{Tried}
 use Rattle.detection.specs.Detection.{triedBy, dueAt, TryReady}
 use Rattle.state.specs.declared.State.{State}
 use Rattle.state.specs.State.{stateWith}
-use Rattle.state.specs.Step.{withValues, dueOn, withGatherer, valueOut, passesEnd, dueWith, halfJoined, whyNot}
+use Rattle.state.specs.Step.{withValues, dueOn, withGatherer, valueOut, passesEnd, halfDue, halfJoined, whyNot}
 use Rattle.feed.specs.declared.Half.{Half}
 use Rattle.feed.specs.Feed.{HalfReady, halfBy, halfOutcome, refusedHalf, halfOf}
 
@@ -58,7 +58,7 @@ module _ {s : Settings} {t : Scaled} {g : Gatherer} {d : Detector} {a : ℕ} {w 
 
     -- one that is
     taken : (h : Half) (w₁ out : List ℕ) → whyNot st p (room lent) ≡ 0 → stateWith s (h .gatherer) (h .detector) w₁ ≡ halfJoined st p → h .sum ≡ sumOf w₁ →
-        h .written ≡ length (dueWith st p) → h .why ≡ 0 → out ≡ over (recordBytes (dueWith st p)) lent → halfOf s h w₁ out ≡ halfOutcome st p lent
+        h .written ≡ length (halfDue st p) → h .why ≡ 0 → out ≡ over (recordBytes (halfDue st p)) lent → halfOf s h w₁ out ≡ halfOutcome st p lent
     unfolding halfOutcome
     taken h w₁ out why after-is sum-is written-is none bytes-are =
         let sum : h .sum ≡ sumOf (halfJoined st p .window) = sum-is ∙ ap (λ (z : State). sumOf (z .window)) after-is in
@@ -66,19 +66,19 @@ module _ {s : Settings} {t : Scaled} {g : Gatherer} {d : Detector} {a : ℕ} {w 
         ∙ sym (ap (λ (k : ℕ). halfBy k st p lent) why)
 
     -- what V's end and the room tell
-    why-is : (past full : Bool) → passesEnd st p ≡ past → (room lent <ᵇ length (dueWith st p)) ≡ full →
+    why-is : (past full : Bool) → passesEnd st p ≡ past → (room lent <ᵇ length (halfDue st p)) ≡ full →
         whyNot st p (room lent) ≡ (if past then 2 else if full then 1 else 0)
     why-is past full e f = λ i. if e i then 2 else if f i then 1 else 0
 
     -- the first half-cycle
     pub first-half : g .whole ≡ false → (half : Gatherer) → half ≡ withHalf g p →
         halfOf s (record { gatherer = half; detector = d; sum = a; written = 0; why = 0 }) w lent ≡ halfOutcome st p lent
-    unfolding passesEnd dueWith halfJoined valueFrom
+    unfolding passesEnd halfDue halfJoined valueFrom
     first-half first half half-is =
         let none : valueOut st p ≡ [] = ap (λ (b : Bool). if b then rms (s .samples) (g .last) (g .sum + p .squares) ∷ [] else []) first in
         let no-end : passesEnd st p ≡ false =
         ap (λ (vs : List ℕ). lastValue <ᵇ length vs + d .count) none ∙ le-ltb lastValue (0 + d .count) (omega (arith, pre .valid .count-le)) in
-        let no-event : dueWith st p ≡ [] = ap (λ (vs : List ℕ). dueOn vs st) none in
+        let no-event : halfDue st p ≡ [] = ap (λ (vs : List ℕ). dueOn vs st) none in
         taken (record { gatherer = half; detector = d; sum = a; written = 0; why = 0 }) w lent
         (why-is false false no-end (ap (λ (es : List Event). room lent <ᵇ length es) no-event ∙ le-ltb (room lent) 0 (omega arith)))
         (λ i. withValues (sym none i) (withGatherer st (half-is i)))
@@ -106,11 +106,11 @@ module _ {s : Settings} {t : Scaled} {g : Gatherer} {d : Detector} {a : ℕ} {w 
         unfolding passesEnd
         not-end = ap (λ (vs : List ℕ). lastValue <ᵇ length vs + d .count) value-is ∙ le-ltb lastValue (1 + d .count) (omega (arith, more, pre .valid .count-le))
 
-        due-is : eventsOf (tried .due) ≡ dueWith st p
-        unfolding dueWith dueAt
+        due-is : eventsOf (tried .due) ≡ halfDue st p
+        unfolding halfDue dueAt
         due-is = ap (λ (k : Tried). eventsOf (k .due)) tried-is ∙ ap (λ (vs : List ℕ). dueOn vs st) out-is
 
-        written-is : written ≡ length (dueWith st p)
+        written-is : written ≡ length (halfDue st p)
         written-is = count-is ∙ ap length due-is
 
         room-test : (full : Bool) → (room lent <ᵇ written) ≡ full → whyNot st p (room lent) ≡ (if full then 1 else 0)

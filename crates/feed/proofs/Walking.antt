@@ -26,7 +26,7 @@ use Rattle.detection.specs.declared.Detector.{Detector}
 use Rattle.greedy.specs.Greedy.{fedBy}
 use Rattle.state.specs.declared.State.{State}
 use Rattle.state.specs.State.{stateWith, ValidState}
-use Rattle.state.specs.Step.{dueWith, halfJoined, partJoined, passesEnd, whyNot, machine}
+use Rattle.state.specs.Step.{halfDue, halfJoined, partJoined, passesEnd, whyNot, machine}
 use Rattle.state.specs.StepLaws.{feed-taken, feed-stops, feed-rest}
 use Rattle.state.specs.StepValid.{halfJoined-valid, partJoined-valid}
 use Rattle.state.specs.Calls.{fedWith}
@@ -60,8 +60,8 @@ no-why false true e = absurd (omega arith)
 no-why false false e = (refl, refl)
 
 -- what `end_walk` gives
-abbrev pub Ended : Gatherer → Detector → List ℤ → Told → Walked → Type 0
-Ended g d samples told last = (last ≡ walkedWith g d (partOf samples) told) × (partOf samples .squares ≤ length samples * 2 ^ 30)
+abbrev pub WalkEnds : Gatherer → Detector → List ℤ → Told → Walked → Type 0
+WalkEnds g d samples told last = (last ≡ walkedWith g d (partOf samples) told) × (partOf samples .squares ≤ length samples * 2 ^ 30)
 
 -- what `walk` gives
 abbrev pub WalkIs : State → List ℤ → List ℕ → Settings → List ℕ → Walked → List ℕ → Type 0
@@ -190,16 +190,16 @@ module _ {s : Settings} {w₀ : List ℕ} {block : List ℤ} {lent : List ℕ} {
           after-is : halfJoined st p ≡ stateWith s (h .gatherer) (h .detector) w₁
           after-is = sym (ap (λ (o : HalfOutcome). o .after) (took .1))
 
-          written-is : length (dueWith st p) ≡ h .written
+          written-is : length (halfDue st p) ≡ h .written
           written-is = sym (ap (λ (o : HalfOutcome). o .written) (took .1))
 
           next : Progress st₀ block lent (stateWith s (h .gatherer) (h .detector) w₁) (at + n) (written + h .written) back
           next =
-              let t = no-why (passesEnd st p) (left <ᵇ length (dueWith st p)) (took .0) in
-              let few : length (dueWith st p) ≤ left = ltb-false left (length (dueWith st p)) (t .1) in
+              let t = no-why (passesEnd st p) (left <ᵇ length (halfDue st p)) (took .0) in
+              let few : length (halfDue st p) ≤ left = ltb-false left (length (halfDue st p)) (t .1) in
               subst (λ (k : ℕ). Progress st₀ block lent (stateWith s (h .gatherer) (h .detector) w₁) (at + n) (written + k) back) written-is
-              (subst (λ (z : State). Progress st₀ block lent z (at + n) (written + length (dueWith st p)) back) after-is
-              (progress-more (inv .so-far) n (dueWith st p) (halfJoined st p) back (inv .share-in) few
+              (subst (λ (z : State). Progress st₀ block lent z (at + n) (written + length (halfDue st p)) back) after-is
+              (progress-more (inv .so-far) n (halfDue st p) (halfJoined st p) back (inv .share-in) few
               (halfJoined-valid st p (inv .so-far .valid) p-fits (t .0))
               (feed-taken st rest left (inv .so-far .valid .gatherer-valid .count-lt) share (inv .share-is) completes (took .0))
               (back-is ∙ ap (λ (l : List ℕ). take behind out ++ l) (ap (λ (o : HalfOutcome). o .bytes) (took .1)))))
@@ -218,7 +218,7 @@ module _ {s : Settings} {w₀ : List ℕ} {block : List ℤ} {lent : List ℕ} {
               (share-is ∙ ap (cut (s .samples) (h .gatherer)) (rest-is (at + n) block)) (long ∙ inv .long) (wide ∙ inv .wide)
 
         -- it is not
-        pub walk-stops : 0 < h .why → (last : Walked) → Ended g d (take (at + n - 1 - at) rest) (telling (at + n - 1) (h .why)) last →
+        pub walk-stops : 0 < h .why → (last : Walked) → WalkEnds g d (take (at + n - 1 - at) rest) (telling (at + n - 1) (h .why)) last →
             WalkIs st₀ block lent s w₁ last back
         walk-stops some last ended =
             let stopped = half-refused (whyNot st p left) (halfOf s h w₁ part) st p (drop behind out) given some in
@@ -234,7 +234,7 @@ module _ {s : Settings} {w₀ : List ℕ} {block : List ℤ} {lent : List ℕ} {
             (n - 1) (omega arith) (feed-stops st rest left (inv .so-far .valid .gatherer-valid .count-lt) share (inv .share-is) completes (h .why) (stopped .0) some) (back-is ∙ ap (λ (l : List ℕ). take behind out ++ l) bytes-are)
 
   -- none ends
-  pub walk-ends : share .completes ≡ false → (last : Walked) → Ended g d (take (length block - at) rest) (telling (length block) 0) last →
+  pub walk-ends : share .completes ≡ false → (last : Walked) → WalkEnds g d (take (length block - at) rest) (telling (length block) 0) last →
       WalkIs st₀ block lent s w last out
   walk-ends leaves last ended =
       let all-is : partOf (take (length block - at) rest) ≡ partOf rest = ap partOf (rest-is at block) in

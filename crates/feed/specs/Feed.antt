@@ -17,7 +17,7 @@ use Rattle.rms.specs.Gather.{withPart, PartFits}
 use Rattle.detection.specs.declared.Detector.{Detector}
 use Rattle.state.specs.declared.State.{State}
 use Rattle.state.specs.State.{stateWith, ValidState}
-use Rattle.state.specs.Step.{dueWith, halfJoined, whyNot}
+use Rattle.state.specs.Step.{halfDue, halfJoined, whyNot}
 use Rattle.feed.specs.declared.Half.{Half}
 use Rattle.feed.specs.declared.Walked.{Walked}
 
@@ -41,9 +41,9 @@ abbrev pub halfBy : ℕ → State → Part → List ℕ → HalfOutcome
 halfBy zero st p lent = record {
   after = halfJoined st p;
   sum = sumOf (halfJoined st p .window);
-  written = length (dueWith st p);
+  written = length (halfDue st p);
   why = 0;
-  bytes = over (recordBytes (dueWith st p)) lent;
+  bytes = over (recordBytes (halfDue st p)) lent;
 }
 halfBy (suc y) st p lent = record { after = st; sum = sumOf (st .window); written = 0; why = suc y; bytes = lent }
 

@@ -39,13 +39,13 @@ leb-sub d l room h = go (l ≤ᵇ room - d) refl
     go false e = let p = leb-false l (room - d) e in lt-leb (d + l) room (omega arith)
 
 module _ {St : Type 0} (M : Machine St) where
-  pub record Greatest (st : St) (block : List ℤ) (room : ℕ) (r : Run St) : Type 0 where
+  pub record GreatestRun (st : St) (block : List ℤ) (room : ℕ) (r : Run St) : Type 0 where
     pub taken-is : r .taken ≡ takenBy M st block room
     pub events-are : r .events ≡ dueOver M st (take (takenBy M st block room) block)
     pub after-is : r .after ≡ walkedBy M st (take (takenBy M st block room) block)
     pub why-is : r .why ≡ whyBy M st block (takenBy M st block room)
 
-  none-taken : (st : St) (block : List ℤ) (room y : ℕ) → takenBy M st block room ≡ 0 → whyBy M st block 0 ≡ y → Greatest st block room (stopped st y)
+  none-taken : (st : St) (block : List ℤ) (room y : ℕ) → takenBy M st block room ≡ 0 → whyBy M st block 0 ≡ y → GreatestRun st block room (stopped st y)
   none-taken st block room y e w = record {
     taken-is = sym e;
     events-are = sym (ap (λ (n : ℕ). dueOver M st (take n block)) e);
@@ -85,8 +85,8 @@ module _ {St : Type 0} (M : Machine St) where
             (λ i. (not (e i) && withinEndBy M (M .next st x) (take k xs)) && length-append (M .dueWith st x) (dueOver M (M .next st x) (take k xs)) i ≤ᵇ room)
             ∙ ap (_&&_ (withinEndBy M (M .next st x) (take k xs))) (leb-sub (length (M .dueWith st x)) (length (dueOver M (M .next st x) (take k xs))) room h)
 
-    later : (r : Run St) → M .atEnd st x ≡ false → length (M .dueWith st x) ≤ room → Greatest (M .next st x) xs (room - length (M .dueWith st x)) r
-        → Greatest st (x ∷ xs) room (joined 1 (M .dueWith st x) r)
+    later : (r : Run St) → M .atEnd st x ≡ false → length (M .dueWith st x) ≤ room → GreatestRun (M .next st x) xs (room - length (M .dueWith st x)) r
+        → GreatestRun st (x ∷ xs) room (joined 1 (M .dueWith st x) r)
     later r e h ih =
         let n : ℕ = takenBy M (M .next st x) xs (room - length (M .dueWith st x)) in
         let t : takenBy M st (x ∷ xs) room ≡ suc n = takes e h in
@@ -103,14 +103,14 @@ module _ {St : Type 0} (M : Machine St) where
         }
 
   -- demand 2's feed, from every state
-  pub fedBy-greatest : (block : List ℤ) (st : St) (room : ℕ) → Greatest st block room (fedBy M st block room)
+  pub fedBy-greatest : (block : List ℤ) (st : St) (room : ℕ) → GreatestRun st block room (fedBy M st block room)
   unfolding fedBy
   fedBy-greatest [] st room = none-taken st [] room 0 refl refl
   fedBy-greatest (x ∷ xs) st room = go (M .atEnd st x) (room <ᵇ length (M .dueWith st x)) refl refl (fedBy-greatest xs (M .next st x) (room - length (M .dueWith st x)))
     where
       go : (e f : Bool) → M .atEnd st x ≡ e → (room <ᵇ length (M .dueWith st x)) ≡ f →
-          Greatest (M .next st x) xs (room - length (M .dueWith st x)) (fedBy M (M .next st x) xs (room - length (M .dueWith st x))) → Greatest st (x ∷ xs) room (fedBy M st (x ∷ xs) room)
-      go true f p q ih = subst (Greatest st (x ∷ xs) room) (sym (fedBy-ends M st x xs room p)) (none-taken st (x ∷ xs) room 2 (ends st x xs room p) (why-first st x xs room true p))
+          GreatestRun (M .next st x) xs (room - length (M .dueWith st x)) (fedBy M (M .next st x) xs (room - length (M .dueWith st x))) → GreatestRun st (x ∷ xs) room (fedBy M st (x ∷ xs) room)
+      go true f p q ih = subst (GreatestRun st (x ∷ xs) room) (sym (fedBy-ends M st x xs room p)) (none-taken st (x ∷ xs) room 2 (ends st x xs room p) (why-first st x xs room true p))
       go false true p q ih =
-          subst (Greatest st (x ∷ xs) room) (sym (fedBy-full M st x xs room p q)) (none-taken st (x ∷ xs) room 1 (full st x xs room (ltb-true room _ q)) (why-first st x xs room false p))
-      go false false p q ih = subst (Greatest st (x ∷ xs) room) (sym (fedBy-takes M st x xs room p q)) (later st x xs room _ p (ltb-false room _ q) ih)
+          subst (GreatestRun st (x ∷ xs) room) (sym (fedBy-full M st x xs room p q)) (none-taken st (x ∷ xs) room 1 (full st x xs room (ltb-true room _ q)) (why-first st x xs room false p))
+      go false false p q ih = subst (GreatestRun st (x ∷ xs) room) (sym (fedBy-takes M st x xs room p q)) (later st x xs room _ p (ltb-false room _ q) ih)

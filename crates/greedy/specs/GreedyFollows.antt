@@ -15,9 +15,9 @@ use Rattle.numbers.specs.NotationLaws.{and-left}
 use Rattle.reading.specs.declared.Event.{Event}
 use Rattle.reading.specs.Values.{Samples, valueCount}
 use Rattle.reading.specs.Feed.{lastValue, completed, withinEnd, allowed, taken, why}
-use Rattle.reading_laws.specs.Recordings.{samples-append, samples-take, valueCount-grow}
-use Rattle.reading_laws.specs.Completed.{completed-none, completed-add}
-use Rattle.reading_laws.specs.Taken.{taken-allowed}
+use Rattle.reading_laws.specs.RecordingsLaws.{samples-append, samples-take, valueCount-grow}
+use Rattle.reading_laws.specs.CompletedLaws.{completed-none, completed-add}
+use Rattle.reading_laws.specs.TakenLaws.{taken-allowed}
 use Rattle.greedy.specs.Greedy.{Machine, Run, stopped, joined, fedBy}
 use Rattle.greedy.specs.GreedyLaws.{fedBy-ends, fedBy-full, fedBy-takes}
 use Rattle.greedy.specs.GreatestLaws.{greatestTo-none, greatestTo-shift, leb-sub}

@@ -20,12 +20,12 @@ pub record Bounded {St : Type 0} (xs : List ℤ) (room : ℕ) (r : Run St) : Typ
 module _ {St : Type 0} (M : Machine St) where
   -- a block that begins with x, by what x does
   module _ (st : St) (x : ℤ) (xs : List ℤ) (room : ℕ) where
-    abbrev pub on : Bool → Bool → Run St
-    on e f = elim e [ true ↦ stopped st 2 | false ↦ elim f [ true ↦ stopped st 1 | false ↦ joined 1 (M .dueWith st x) (fedBy M (M .next st x) xs (room - length (M .dueWith st x))) ] ]
+    abbrev pub byFirst : Bool → Bool → Run St
+    byFirst e f = elim e [ true ↦ stopped st 2 | false ↦ elim f [ true ↦ stopped st 1 | false ↦ joined 1 (M .dueWith st x) (fedBy M (M .next st x) xs (room - length (M .dueWith st x))) ] ]
 
-    pub fedBy-cons : (e f : Bool) → M .atEnd st x ≡ e → (room <ᵇ length (M .dueWith st x)) ≡ f → fedBy M st (x ∷ xs) room ≡ on e f
+    pub fedBy-cons : (e f : Bool) → M .atEnd st x ≡ e → (room <ᵇ length (M .dueWith st x)) ≡ f → fedBy M st (x ∷ xs) room ≡ byFirst e f
     unfolding fedBy
-    fedBy-cons e f p q = λ i. on (p i) (q i)
+    fedBy-cons e f p q = λ i. byFirst (p i) (q i)
 
     pub fedBy-ends : M .atEnd st x ≡ true → fedBy M st (x ∷ xs) room ≡ stopped st 2
     fedBy-ends p = fedBy-cons true _ p refl
@@ -71,7 +71,7 @@ module _ {St : Type 0} (M : Machine St) where
       later : ℕ
       later = room - length (M .dueWith st x)
 
-      go : (e f : Bool) → fedBy M (M .next st x) (xs ++ ys) later ≡ andThen (fedBy M (M .next st x) xs later) ys later → on st x (xs ++ ys) room e f ≡ andThen (on st x xs room e f) ys room
+      go : (e f : Bool) → fedBy M (M .next st x) (xs ++ ys) later ≡ andThen (fedBy M (M .next st x) xs later) ys later → byFirst st x (xs ++ ys) room e f ≡ andThen (byFirst st x xs room e f) ys room
       go true f ih = refl
       go false true ih = refl
       go false false ih = ap (joined 1 (M .dueWith st x)) ih ∙ joined-andThen (M .dueWith st x) (fedBy M (M .next st x) xs later) ys room
@@ -85,7 +85,7 @@ module _ {St : Type 0} (M : Machine St) where
       later : Run St
       later = fedBy M (M .next st x) xs (room - length (M .dueWith st x))
 
-      go : (e f : Bool) → (room <ᵇ length (M .dueWith st x)) ≡ f → Bounded xs (room - length (M .dueWith st x)) later → Bounded (x ∷ xs) room (on st x xs room e f)
+      go : (e f : Bool) → (room <ᵇ length (M .dueWith st x)) ≡ f → Bounded xs (room - length (M .dueWith st x)) later → Bounded (x ∷ xs) room (byFirst st x xs room e f)
       go true f q ih = record { most = omega arith; whole = λ e. absurd (omega arith); fits = omega arith }
       go false true q ih = record { most = omega arith; whole = λ e. absurd (omega arith); fits = omega arith }
       go false false q ih = record {

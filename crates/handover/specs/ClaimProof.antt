@@ -19,10 +19,10 @@ use Rattle.reading.specs.Records.{recordBytes, events}
 use Rattle.reading.specs.Image.{imageOf}
 use Rattle.reading.specs.Restore.{restoreRefusal}
 use Rattle.reading.specs.Feed.{completed, taken}
-use Rattle.reading.specs.Engineer.{Call, Desk, over, room, emptyDesk, answer, after, answers, deskAfter, WellFormed}
+use Rattle.reading.specs.Engineer.{Call, Desk, over, room, emptyDesk, answer, deskWith, answers, deskAfter, WellFormed}
 use Rattle.reading.specs.Engineer.Call.{feed, look, save, restoreSave, restoreRefused}
 use Rattle.reading.specs.Engineer.Answer.{fed, looked, saved, restored}
-use Rattle.reading_laws.specs.Completed.{events-completed}
+use Rattle.reading_laws.specs.CompletedLaws.{events-completed}
 use Rattle.records.specs.DueLaws.{length-recordBytes, recordBytes-append}
 use Rattle.greedy.specs.GreedyFollows.{Recording, fedBy-follows, recording-fed}
 use Rattle.state.specs.declared.State.{State}
@@ -38,15 +38,15 @@ use Rattle.handover.specs.Claim.{Caller, loggerAnswer, callerAfter, logg
 use Rattle.handover.specs.TheCalls.{numberOfAnswer, startedFrom, loggerCalls}
 
 -- lists of copies
-abbrev pub Recordings : Settings → List (List ℤ) → Type 0
-Recordings s [] = Unit {0}
-Recordings s (r ∷ rs) = Recording s r × Recordings s rs
+abbrev pub AllRecordings : Settings → List (List ℤ) → Type 0
+AllRecordings s [] = Unit {0}
+AllRecordings s (r ∷ rs) = Recording s r × AllRecordings s rs
 
-recordings-snoc : (s : Settings) (rs : List (List ℤ)) (r : List ℤ) → Recordings s rs → Recording s r → Recordings s (rs ++ (r ∷ []))
+recordings-snoc : (s : Settings) (rs : List (List ℤ)) (r : List ℤ) → AllRecordings s rs → Recording s r → AllRecordings s (rs ++ (r ∷ []))
 recordings-snoc s [] r p q = (q, tt)
 recordings-snoc s (x ∷ rs) r p q = (p .0, recordings-snoc s rs r (p .1) q)
 
-recordings-at : (s : Settings) (rs : List (List ℤ)) (j : ℕ) → Recordings s rs → j < length rs → Recording s (getD rs j [])
+recordings-at : (s : Settings) (rs : List (List ℤ)) (j : ℕ) → AllRecordings s rs → j < length rs → Recording s (getD rs j [])
 recordings-at s [] j p h = absurd (omega arith)
 recordings-at s (r ∷ rs) zero p h = p .0
 recordings-at s (r ∷ rs) (suc j) p h = recordings-at s rs j (p .1) (omega arith)
@@ -83,13 +83,13 @@ module _ (s : Settings) (valid : ValidSettings s) where
 
   pub record DeskOk (d : Desk) : Type 0 where
     pub recording-ok : Recording s (d .recording)
-    pub copies-ok : Recordings s (d .copies)
+    pub copies-ok : AllRecordings s (d .copies)
 
   -- one call: the same answer, and the caller still keeps what is read from the desk
-  pub record Step (d : Desk) (c : Call) : Type 0 where
+  pub record CallAgrees (d : Desk) (c : Call) : Type 0 where
     pub same-answer : loggerAnswer loggerCalls (callerOf d) c ≡ answer s d c
-    pub same-kept : callerAfter loggerCalls (callerOf d) c ≡ callerOf (after s d c)
-    pub ok : DeskOk (after s d c)
+    pub same-kept : callerAfter loggerCalls (callerOf d) c ≡ callerOf (deskWith s d c)
+    pub ok : DeskOk (deskWith s d c)
 
   module _ (d : Desk) (ok : DeskOk d) where
     abbrev rec : List ℤ
@@ -98,7 +98,7 @@ module _ (s : Settings) (valid : ValidSettings s) where
     abbrev copies : List (List ℤ)
     copies = d .copies
 
-    feed-step : (block : List ℤ) (lent : List ℕ) → Samples block → Step d (feed block lent)
+    feed-step : (block : List ℤ) (lent : List ℕ) → Samples block → CallAgrees d (feed block lent)
     unfolding fedWith
     feed-step block lent are =
         let F = fedBy-follows s some machine (stateOf s) (steps-of s some) block rec (room lent) (ok .recording-ok .within) in
@@ -120,7 +120,7 @@ module _ (s : Settings) (valid : ValidSettings s) where
           ok = record { recording-ok = recording-fed s some rec block (room lent) (ok .recording-ok) are; copies-ok = ok .copies-ok };
         }
 
-    look-step : Step d look
+    look-step : CallAgrees d look
     look-step = record { same-answer = ap looked (readings-of s rec); same-kept = refl; ok = ok }
 
     image-first : (lent : List ℕ) → take 620 (over (imageBytes (stateOf s rec)) lent) ≡ imageOf s rec
@@ -128,7 +128,7 @@ module _ (s : Settings) (valid : ValidSettings s) where
         let v = stateOf-valid s rec valid (ok .recording-ok) in
         take-over 620 (imageBytes (stateOf s rec)) lent (length-imageBytes (stateOf s rec) (v .window-valid .size)) ∙ image-of-state s rec
 
-    save-step : (lent : List ℕ) → Step d (save lent)
+    save-step : (lent : List ℕ) → CallAgrees d (save lent)
     unfolding saveAnswer savedBytes
     save-step lent = record { same-answer = answered short; same-kept = kept short; ok = kept-ok short }
       where
@@ -163,7 +163,7 @@ module _ (s : Settings) (valid : ValidSettings s) where
         kept-ok true = ok
         kept-ok false = record { recording-ok = ok .recording-ok; copies-ok = recordings-snoc s copies rec (ok .copies-ok) (ok .recording-ok) }
 
-    restore-step : (j : ℕ) → j < length copies → Step d (restoreSave j)
+    restore-step : (j : ℕ) → j < length copies → CallAgrees d (restoreSave j)
     restore-step j h =
         let back = getD copies j [] in
         let back-ok = recordings-at s copies j (ok .copies-ok) h in
@@ -182,7 +182,7 @@ module _ (s : Settings) (valid : ValidSettings s) where
           ok = record { recording-ok = back-ok; copies-ok = ok .copies-ok };
         }
 
-    refuse-step : (bytes : List ℕ) → (restoreRefusal bytes ≡ 0 → ⊥) → Step d (restoreRefused bytes)
+    refuse-step : (bytes : List ℕ) → (restoreRefusal bytes ≡ 0 → ⊥) → CallAgrees d (restoreRefused bytes)
     refuse-step bytes h =
         let P = restoredBy-refused (stateOf s rec) bytes h in
         record {
@@ -192,11 +192,11 @@ module _ (s : Settings) (valid : ValidSettings s) where
         }
 
   -- call by call
-  pub record Run (d : Desk) (cs : List Call) : Type 0 where
+  pub record ListAgrees (d : Desk) (cs : List Call) : Type 0 where
     pub same-answers : loggerAnswers loggerCalls (callerOf d) cs ≡ answers s d cs
     pub same-kept : callerAfterAll loggerCalls (callerOf d) cs ≡ callerOf (deskAfter s d cs)
 
-  step-run : (d : Desk) (c : Call) (cs : List Call) → Step d c → Run (after s d c) cs → Run d (c ∷ cs)
+  step-run : (d : Desk) (c : Call) (cs : List Call) → CallAgrees d c → ListAgrees (deskWith s d c) cs → ListAgrees d (c ∷ cs)
   step-run d c cs step run = record {
     same-answers = λ i. step .same-answer i ∷ (ap (λ (w : Caller State). loggerAnswers loggerCalls w cs) (step .same-kept) ∙ run .same-answers) i;
     same-kept = ap (λ (w : Caller State). callerAfterAll loggerCalls w cs) (step .same-kept) ∙ run .same-kept;
@@ -210,14 +210,14 @@ module _ (s : Settings) (valid : ValidSettings s) where
       let l : suc (length (d .copies)) ≡ length (d .copies ++ (d .recording ∷ [])) = simp length-append (omega arith) in
       subst (λ (n : ℕ). WellFormed n cs) l w
 
-  pub run : (cs : List Call) (d : Desk) → DeskOk d → WellFormed (length (d .copies)) cs → Run d cs
+  pub run : (cs : List Call) (d : Desk) → DeskOk d → WellFormed (length (d .copies)) cs → ListAgrees d cs
   run [] d ok w = record { same-answers = refl; same-kept = refl }
-  run (feed block lent ∷ cs) d ok w = let p = feed-step d ok block lent (w .0) in step-run d (feed block lent) cs p (run cs (after s d (feed block lent)) (p .ok) (w .2))
+  run (feed block lent ∷ cs) d ok w = let p = feed-step d ok block lent (w .0) in step-run d (feed block lent) cs p (run cs (deskWith s d (feed block lent)) (p .ok) (w .2))
   run (look ∷ cs) d ok w = step-run d look cs (look-step d ok) (run cs d ok w)
   run (save lent ∷ cs) d ok w =
       let p = save-step d ok lent in
-      step-run d (save lent) cs p (run cs (after s d (save lent)) (p .ok) (copies-more d (length lent <ᵇ 620) cs (w .1)))
-  run (restoreSave j ∷ cs) d ok w = let p = restore-step d ok j (w .0) in step-run d (restoreSave j) cs p (run cs (after s d (restoreSave j)) (p .ok) (w .1))
+      step-run d (save lent) cs p (run cs (deskWith s d (save lent)) (p .ok) (copies-more d (length lent <ᵇ 620) cs (w .1)))
+  run (restoreSave j ∷ cs) d ok w = let p = restore-step d ok j (w .0) in step-run d (restoreSave j) cs p (run cs (deskWith s d (restoreSave j)) (p .ok) (w .1))
   run (restoreRefused bytes ∷ cs) d ok w = step-run d (restoreRefused bytes) cs (refuse-step d ok bytes (w .1)) (run cs d ok (w .2))
 
   -- from the fresh logger

@@ -10,7 +10,7 @@ use borrow.Author.Tests.{eq-eqb, ne-eqb, lt-leb, le-leb, le-ltb}
 use borrow.Rule.Slice.PartMut.{putMid}
 use Rattle.octets.specs.Bytes.{bytesOf}
 use Rattle.octets.specs.BytesLaws.{length-bytesOf}
-use Rattle.octets.specs.Parts.{put-next}
+use Rattle.octets.specs.PartsLaws.{put-next}
 use Rattle.numbers.specs.Notation.{_≤ᵇ_, _<ᵇ_, _≡ᵇ_, refuse_unless_then_, if_then_else_}
 use Rattle.reading.specs.declared.Told.{Told}
 use Rattle.reading.specs.Restore.{restoreRefusal}

@@ -8,7 +8,7 @@ use lib.Seq.{drop-drop}
 use borrow.Author.Tests.{lt-ltb, le-ltb}
 use borrow.Rule.Slice.PartMut.{putMid}
 use Rattle.octets.specs.Bytes.{words}
-use Rattle.octets.specs.Parts.{put-next}
+use Rattle.octets.specs.PartsLaws.{put-next}
 use Rattle.settings.specs.Settings.{settingsBytes}
 use Rattle.reading.specs.Image.{table}
 use Rattle.state.specs.declared.State.{State}

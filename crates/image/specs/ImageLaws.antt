@@ -8,7 +8,7 @@ use lib.ListN.{length, drop, length-append, length-take, length-drop}
 use borrow.Author.Tests.{eqb-true, eq-eqb}
 use Rattle.octets.specs.Bytes.{Bytes, words, numberAt}
 use Rattle.octets.specs.BytesLaws.{bytes-take, bytes-drop, length-words, numberAt-lt}
-use Rattle.octets.specs.Parts.{numberAt-part}
+use Rattle.octets.specs.PartsLaws.{numberAt-part}
 use Rattle.numbers.specs.Notation.{_≡ᵇ_}
 use Rattle.numbers.specs.NotationLaws.{and-true, and-left, and-right, refuse-passes, refuse-none}
 use Rattle.settings.specs.declared.Settings.{Settings}
@@ -20,7 +20,7 @@ use Rattle.reading.specs.Restore.{part, sameBytes, gathererGood, valuesGood, ev
 use Rattle.state.specs.declared.State.{State}
 use Rattle.state.specs.State.{stateWith, ValidState}
 use Rattle.bodies.specs.Bodies.{gathererBody, valuesBody, detectorNumbers, gathererAt, windowAt, detectorAt}
-use Rattle.bodies.specs.BodiesFacts.{same-equal}
+use Rattle.bodies.specs.BodiesValid.{same-equal}
 use Rattle.bodies.specs.BodiesLaws.{length-valuesBody, length-detectorBody}
 use Rattle.bodies.specs.BodiesLaws.{GathererBack, ValuesBack, DetectorBack, gatherer-back, values-back, detector-back}
 use Rattle.bodies.specs.BodiesLaws.{GathererAgain, ValuesAgain, DetectorAgain, gatherer-good, values-good, detector-good}

@@ -32,11 +32,10 @@ pub fn save(state: State, image: &mut [u8]) -> u32
     let settings = state.settings;
     let gatherer = state.gatherer;
     let detector = state.detector;
-    let window = state.window;
     bodies::put_table(&mut image[0..32]);
     settings.write(&mut image[32..68]);
     bodies::put_gatherer(&mut image[68..92], gatherer);
-    bodies::put_values(&mut image[92..576], detector.count, &window);
+    bodies::put_values(&mut image[92..576], detector.count, &state.window);
     bodies::put_detector(&mut image[576..620], detector);
     0
 }

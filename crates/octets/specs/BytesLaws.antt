@@ -23,18 +23,6 @@ bytes-drop zero b h = h
 bytes-drop (suc n) [] h = tt
 bytes-drop (suc n) (x ∷ b) h = bytes-drop n b (h .1)
 
-pub bytes-append : (a b : List ℕ) → Bytes a → Bytes b → Bytes (a ++ b)
-bytes-append [] b p q = q
-bytes-append (x ∷ a) b p q = (p .0, bytes-append a b (p .1) q)
-
-pub bytesOf-bytes : (w x : ℕ) → Bytes (bytesOf w x)
-bytesOf-bytes zero x = tt
-bytesOf-bytes (suc w) x = (omega arith, bytesOf-bytes w (x / 256))
-
-pub words-bytes : (ns : List ℕ) → Bytes (words ns)
-words-bytes [] = tt
-words-bytes (x ∷ ns) = bytes-append (bytesOf 4 x) (words ns) (bytesOf-bytes 4 x) (words-bytes ns)
-
 pub length-bytesOf : (w x : ℕ) → length (bytesOf w x) ≡ w
 length-bytesOf zero x = refl
 length-bytesOf (suc w) x = ap suc (length-bytesOf w (x / 256))

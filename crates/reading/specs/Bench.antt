@@ -35,8 +35,8 @@ abbrev pub q : Settings
 q = qWith 8 300 150
 
 -- n samples x
-abbrev pub all : ℕ → ℕ → List ℤ
-all n x = replicate n (pos x)
+abbrev pub repeated : ℕ → ℕ → List ℤ
+repeated n x = replicate n (pos x)
 
 -- bytes, n times
 abbrev pub times : ℕ → List ℕ → List ℕ
@@ -45,22 +45,22 @@ times (suc n) bytes = bytes ++ times n bytes
 
 -- the program's samples; 150 half-cycles of 100, then 103 of 96
 abbrev pub program : List ℤ
-program = all 24 100 ++ (all 16 50 ++ all 24 100)
+program = repeated 24 100 ++ (repeated 16 50 ++ repeated 24 100)
 
 abbrev pub change : List ℤ
-change = all (150 * 8) 100 ++ all (103 * 8) 96
+change = repeated (150 * 8) 100 ++ repeated (103 * 8) 96
 
 -- 150 half-cycles of 100, then 51 of 94 and 52 of 98: at value 252 within T of the mean, but not within T − H
 abbrev pub restless : List ℤ
-restless = all (150 * 8) 100 ++ (all (51 * 8) 94 ++ all (52 * 8) 98)
+restless = repeated (150 * 8) 100 ++ (repeated (51 * 8) 94 ++ repeated (52 * 8) 98)
 
 -- 89 until a dip stands, then x
 abbrev pub dipThen : ℕ → List ℤ
-dipThen x = all 16 89 ++ all 16 x
+dipThen x = repeated 16 89 ++ repeated 16 x
 
 -- 150 half-cycles of 100, two of 80 and three samples more: a change in progress since value 150, and a dip since 151
 abbrev pub changing : List ℤ
-changing = all (150 * 8) 100 ++ all 19 80
+changing = repeated (150 * 8) 100 ++ repeated 19 80
 
 -- its image, byte by byte: the table; the settings; the gatherer; V and the window; the phase, the change and the three events
 abbrev pub changingImage : List ℕ
@@ -109,17 +109,17 @@ pub record BenchReadings : Type 0 where
   pub q-accepted : settingsRefusal q ≡ 0
   -- all samples −32768: 524,288; all 0: 0
   pub all-lowest : values q (replicate 24 (negsuc 32767)) ≡ 524288 ∷ 524288 ∷ []
-  pub all-zero : values q (all 24 0) ≡ 0 ∷ 0 ∷ []
+  pub all-zero : values q (repeated 24 0) ≡ 0 ∷ 0 ∷ []
   -- one 1 among sixteen: 4; with M 256, one among 512: 0
-  pub one-of-sixteen : values q (pos 1 ∷ all 15 0) ≡ 4 ∷ []
-  pub one-of-512 : values (qWith 256 300 150) (pos 1 ∷ all 511 0) ≡ 0 ∷ []
+  pub one-of-sixteen : values q (pos 1 ∷ repeated 15 0) ≡ 4 ∷ []
+  pub one-of-512 : values (qWith 256 300 150) (pos 1 ∷ repeated 511 0) ≡ 0 ∷ []
   -- eight 100s, eight 50s: 1264
-  pub hundreds-and-fifties : values q (all 8 100 ++ all 8 50) ≡ 1264 ∷ []
+  pub hundreds-and-fifties : values q (repeated 8 100 ++ repeated 8 50) ≡ 1264 ∷ []
   -- all 90, r = 1440: no dip; all 89, 1424: dip
-  pub all-90 : values q (all 16 90) ≡ 1440 ∷ []
-  pub no-dip-at-90 : readings q (values q (all 16 90)) .dip ≡ false
-  pub all-89 : values q (all 16 89) ≡ 1424 ∷ []
-  pub dip-at-89 : readings q (values q (all 16 89)) .dip ≡ true
+  pub all-90 : values q (repeated 16 90) ≡ 1440 ∷ []
+  pub no-dip-at-90 : readings q (values q (repeated 16 90)) .dip ≡ false
+  pub all-89 : values q (repeated 16 89) ≡ 1424 ∷ []
+  pub dip-at-89 : readings q (values q (repeated 16 89)) .dip ≡ true
   -- in a dip, 1472 ends it, 1456 doesn't
   pub then-92 : values q (dipThen 92) ≡ 1472 ∷ 1448 ∷ 1424 ∷ []
   pub ended-at-92 : recordsOf q (dipThen 92) ≡ record { kind = 1; start = 1; duration = 2; first = 1424; second = 0 } ∷ []
@@ -129,7 +129,7 @@ pub record BenchReadings : Type 0 where
   -- 150 half-cycles of 100, then 103 of 96: due at value 252, RVC 151, 1, 6368, 6368; with T 393 still an event at 151; with T 394 none
   pub change-count : length (values q change) ≡ 252
   pub change-due : recordsOf q change ≡ record { kind = 4; start = 151; duration = 1; first = 6368; second = 6368 } ∷ []
-  pub change-not-before : recordsOf q (all (150 * 8) 100 ++ all (102 * 8) 96) ≡ []
+  pub change-not-before : recordsOf q (repeated (150 * 8) 100 ++ repeated (102 * 8) 96) ≡ []
   pub change-at-393 : recordsOf (qWith 8 393 150) change ≡ record { kind = 4; start = 151; duration = 1; first = 6368; second = 6368 } ∷ []
   pub none-at-394 : recordsOf (qWith 8 394 150) change ≡ []
   -- in a change T − H is in force: a voltage that is calm under T only does not end it, unless H is 0

@@ -7,7 +7,7 @@ use Rattle.settings.specs.Settings.{startRefusal, settingsRefusal, samplesGood,
 use Rattle.reading.specs.Values.{root, values}
 use Rattle.reading.specs.Image.{imageOf}
 use Rattle.reading.specs.Restore.{restoreRefusal, gathererGood, valuesGood, changeGood, standingGood, eventsGood}
-use Rattle.reading.specs.Bench.{BenchReadings, q, qWith, all, change, restless, changing, changingImage, changed, refusals, settingsOut, settingsIn, bodiesOut, bodiesIn, recordsOf}
+use Rattle.reading.specs.Bench.{BenchReadings, q, qWith, repeated, change, restless, changing, changingImage, changed, refusals, settingsOut, settingsIn, bodiesOut, bodiesIn, recordsOf}
 
 q-is-accepted : settingsRefusal q ≡ 0
 unfolding settingsRefusal samplesGood frequencyGood declaredGood limitGood levelsGood orderGood
@@ -22,7 +22,7 @@ change-is-due : recordsOf q change ≡ record { kind = 4; start = 151; duration 
 unfolding root
 change-is-due = refl
 
-change-is-not-due-before : recordsOf q (all (150 * 8) 100 ++ all (102 * 8) 96) ≡ []
+change-is-not-due-before : recordsOf q (repeated (150 * 8) 100 ++ repeated (102 * 8) 96) ≡ []
 unfolding root
 change-is-not-due-before = refl
 

@@ -76,22 +76,22 @@ answer s d (restoreSave j) = restored 0
 answer s d (restoreRefused bytes) = restored (restoreRefusal bytes)
 
 -- what is kept after it: a restore that names a save sets the recording back, a refused call changes nothing
-abbrev pub after : Settings → Desk → Call → Desk
-after s d (feed block lent) = record { recording = d .recording ++ take (taken s (d .recording) block (room lent)) block; copies = d .copies }
-after s d look = d
-after s d (save lent) = if length lent <ᵇ 620 then d else record { recording = d .recording; copies = d .copies ++ (d .recording ∷ []) }
-after s d (restoreSave j) = record { recording = getD (d .copies) j []; copies = d .copies }
-after s d (restoreRefused bytes) = d
+abbrev pub deskWith : Settings → Desk → Call → Desk
+deskWith s d (feed block lent) = record { recording = d .recording ++ take (taken s (d .recording) block (room lent)) block; copies = d .copies }
+deskWith s d look = d
+deskWith s d (save lent) = if length lent <ᵇ 620 then d else record { recording = d .recording; copies = d .copies ++ (d .recording ∷ []) }
+deskWith s d (restoreSave j) = record { recording = getD (d .copies) j []; copies = d .copies }
+deskWith s d (restoreRefused bytes) = d
 
 -- the answers to a list of calls
 abbrev pub answers : Settings → Desk → List Call → List Answer
 answers s d [] = []
-answers s d (c ∷ cs) = answer s d c ∷ answers s (after s d c) cs
+answers s d (c ∷ cs) = answer s d c ∷ answers s (deskWith s d c) cs
 
 -- what is kept after a list of calls
 abbrev pub deskAfter : Settings → Desk → List Call → Desk
 deskAfter s d [] = d
-deskAfter s d (c ∷ cs) = deskAfter s (after s d c) cs
+deskAfter s d (c ∷ cs) = deskAfter s (deskWith s d c) cs
 
 -- the lists that demand 3 speaks of, after n accepted saves: blocks are of samples and buffers of bytes, and each restore names an earlier
 -- accepted save or is given bytes that are refused

@@ -1,6 +1,6 @@
-pub mod Root
-pub mod Division
-pub mod Recordings
-pub mod Completed
-pub mod Taken
+pub mod RootLaws
+pub mod DivisionLaws
+pub mod RecordingsLaws
+pub mod CompletedLaws
+pub mod TakenLaws
 pub mod Sentences

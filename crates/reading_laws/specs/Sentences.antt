@@ -9,10 +9,10 @@ use Rattle.settings.specs.declared.Settings.{Settings}
 use Rattle.reading.specs.Values.{Samples, energy, root, value, valueCount, values}
 use Rattle.reading.specs.Records.{events}
 use Rattle.reading.specs.Feed.{lastValue, completed, allowed, taken}
-use Rattle.reading_laws.specs.Root.{root-is, root-most}
-use Rattle.reading_laws.specs.Recordings.{Greatest, value-is, value-le, value-grow}
-use Rattle.reading_laws.specs.Completed.{events-completed}
-use Rattle.reading_laws.specs.Taken.{taken-le, taken-allowed, taken-greatest}
+use Rattle.reading_laws.specs.RootLaws.{root-is, root-most}
+use Rattle.reading_laws.specs.RecordingsLaws.{Greatest, value-is, value-le, value-grow}
+use Rattle.reading_laws.specs.CompletedLaws.{events-completed}
+use Rattle.reading_laws.specs.TakenLaws.{taken-le, taken-allowed, taken-greatest}
 
 pub record Sentences : Type 0 where
   -- the root of n is the greatest number whose square is at most n

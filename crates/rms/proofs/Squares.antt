@@ -13,7 +13,7 @@ use lib.IntN.{ℤ, pos, negsuc, natAbs, _*ℤ_}
 use lib.ListN.{length, take, getD}
 use lib.Seq.{take-suc}
 use Rattle.reading.specs.Values.{square, squares}
-use Rattle.reading_laws.specs.Recordings.{squares-append}
+use Rattle.reading_laws.specs.RecordingsLaws.{squares-append}
 
 -- the integer product is no less than 0, and as far from 0 as the square says
 pub product-nonneg : (z : ℤ) → T (nonNeg (z *ℤ z))

@@ -1,12 +1,12 @@
 -- The laws of the cut, and the only ones that look into it: by one sample, and what a walk over a block needs of it.
-use mathlib.Core.Path.{_≡_, refl, sym, _∙_, ap}
+use mathlib.Core.Path.{_≡_, refl, sym, ap}
 use mathlib.Core.Bool.{Bool, true, false, true≢false}
 use mathlib.Core.List.{List, [], _∷_}
 use Prim.Native.Nat.{ℕ, suc, _+_, _-_, _≤_, _<_}
 use native.Mathlib.Omega.{arith}
 use lib.ListN.{length}
 use lib.IntN.{ℤ}
-use borrow.Author.Tests.{ltb-true, ltb-false, lt-ltb, eqb-false, eq-eqb, ne-eqb}
+use borrow.Author.Tests.{ltb-true, ltb-false, lt-ltb, eq-eqb, ne-eqb}
 use Rattle.numbers.specs.Notation.{_<ᵇ_, _≡ᵇ_, if_then_else_}
 use Rattle.rms.specs.declared.Gatherer.{Gatherer}
 use Rattle.rms.specs.declared.Share.{Share}
@@ -37,7 +37,12 @@ module _ (m : ℕ) (g : Gatherer) (h : g .count < m) where
       go false e = sym (eq-eqb (g .count + 1) m (omega (arith, ltb-false)))
 
   pub next-below : (x : ℤ) → endsWith m g x ≡ false → next g x .count < m
-  next-below x e = omega (arith, eqb-false (g .count + 1) m (sym (endsWith-is x) ∙ e))
+  unfolding cut share
+  next-below x e = go (1 <ᵇ m - g .count) refl e
+    where
+      go : (b : Bool) → (1 <ᵇ m - g .count) ≡ b → share b 1 (m - g .count) .completes ≡ false → next g x .count < m
+      go true p q = omega (arith, ltb-true)
+      go false p q = absurd (true≢false q)
 
   pub cut-cons : (x : ℤ) (xs : List ℤ) → cut m g (x ∷ xs) ≡ (if endsWith m g x then record { count = 1; completes = true } else oneMore (cut m (next g x) xs))
   unfolding cut share
@@ -57,20 +62,20 @@ module _ (m : ℕ) (g : Gatherer) (h : g .count < m) where
 pub record Within (m : ℕ) (g : Gatherer) (xs : List ℤ) (c : Share) : Type 0 where
   pub inside : c .count ≤ length xs
   pub some : c .completes ≡ true → 0 < c .count
-  pub all : c .completes ≡ false → c .count ≡ length xs
+  pub whole : c .completes ≡ false → c .count ≡ length xs
   pub fits : g .count + c .count ≤ m
   pub below : c .completes ≡ false → g .count + length xs < m
 
 pub cut-within : (m : ℕ) (xs : List ℤ) (g : Gatherer) → g .count < m → Within m g xs (cut m g xs)
 cut-within m [] g h =
     rw (cut-none m g h)
-    (record { inside = omega arith; some = λ e. absurd (true≢false (sym e)); all = λ e. refl; fits = omega arith; below = λ e. omega arith })
+    (record { inside = omega arith; some = λ e. absurd (true≢false (sym e)); whole = λ e. refl; fits = omega arith; below = λ e. omega arith })
 cut-within m (x ∷ xs) g h = rw (cut-cons m g h x xs) (go (endsWith m g x) refl (cut-within m xs (next g x)))
   where
     go : (b : Bool) → endsWith m g x ≡ b → (next g x .count < m → Within m (next g x) xs (cut m (next g x) xs))
         → Within m g (x ∷ xs) (if b then record { count = 1; completes = true } else oneMore (cut m (next g x) xs))
     go true e ih =
-        record { inside = omega arith; some = λ p. omega arith; all = λ p. absurd (true≢false p); fits = omega arith; below = λ p. absurd (true≢false p) }
+        record { inside = omega arith; some = λ p. omega arith; whole = λ p. absurd (true≢false p); fits = omega arith; below = λ p. absurd (true≢false p) }
     go false e ih =
         let w = ih (next-below m g h x e) in
-        record { inside = omega arith; some = λ p. omega arith; all = λ p. ap suc (w .all p); fits = omega arith; below = λ p. omega (arith, w .below p) }
+        record { inside = omega arith; some = λ p. omega arith; whole = λ p. ap suc (w .whole p); fits = omega arith; below = λ p. omega (arith, w .below p) }

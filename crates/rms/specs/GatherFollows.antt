@@ -15,9 +15,9 @@ use Rattle.numbers.specs.Notation.{_<ᵇ_, _≡ᵇ_, if_then_else_}
 use Rattle.settings.specs.declared.Settings.{Settings}
 use Rattle.reading.specs.Values.{Samples, squares, energy, rms, halves, valueCount, history, values}
 use Rattle.reading.specs.Image.{lastSum}
-use Rattle.reading_laws.specs.Division.{mod-same, mod-next}
-use Rattle.reading_laws.specs.Recordings.{samples-drop, squares-append, squares-le, energy-grow, energy-le, history-grow}
-use Rattle.reading_laws.specs.Recordings.{halves-same, halves-next, valueCount-same, valueCount-next, valueCount-first}
+use Rattle.reading_laws.specs.DivisionLaws.{mod-same, mod-next}
+use Rattle.reading_laws.specs.RecordingsLaws.{samples-drop, squares-append, squares-le, energy-grow, energy-le, history-grow}
+use Rattle.reading_laws.specs.RecordingsLaws.{halves-same, halves-next, valueCount-same, valueCount-next, valueCount-first}
 use Rattle.rms.specs.declared.Gatherer.{Gatherer}
 use Rattle.rms.specs.Gather.{partOf, noSample, withPart, withHalf, endsWith, valueFrom, gathered, gathererOf, ValidGatherer}
 use Rattle.rms.specs.CutLaws.{endsWith-is}

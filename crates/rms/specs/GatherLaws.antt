@@ -8,7 +8,7 @@ use lib.ListN.{length}
 use lib.IntN.{ℤ}
 use Rattle.numbers.specs.Notation.{if_then_else_}
 use Rattle.reading.specs.Values.{Samples, squares, rms}
-use Rattle.reading_laws.specs.Recordings.{squares-le, rms-le}
+use Rattle.reading_laws.specs.RecordingsLaws.{squares-le, rms-le}
 use Rattle.rms.specs.declared.Part.{Part}
 use Rattle.rms.specs.declared.Gatherer.{Gatherer}
 use Rattle.rms.specs.Gather.{partOf, withPart, withHalf, valueFrom, ValidGatherer, PartFits}

@@ -1,10 +1,8 @@
 // From samples to values: parts of a half-cycle, the integer root, the RMS value of two half-cycles, and the gatherer of half-cycles.
 ghost use mathlib.Core.Path.{_≡_};
-ghost use mathlib.Core.Bool.{true};
-ghost use Prim.Native.Nat.{_+_, _*_, _/_, _^_, _≤_, _<_};
+ghost use Prim.Native.Nat.{_+_, _*_, _^_, _≤_, _<_};
 ghost use lib.ListN.{length};
-ghost use Rattle.reading.specs.Values.{square as squareOf, squares, root as rootOf, rms};
-ghost use Rattle.reading_laws.specs.Root.{IsRoot};
+ghost use Rattle.reading.specs.Values.{square as squareOf, root as rootOf, rms};
 ghost use Rattle.rms.specs.Gather.{partOf, noSample, withPart, withHalf, cut as cutOf, gathered, ValidGatherer};
 
 // A part of a half-cycle: how many samples, and the sum of their squares.
@@ -21,50 +19,39 @@ pub fn square(sample: i16) -> u32
     (wide * wide) as u32
 }
 
-// The part that samples are, at most one half-cycle of them. The high and the low halves of the squares are summed by themselves, in 4 bytes each, so that the
-// loop runs in lanes of 4 bytes.
+// The part that samples are, at most one half-cycle of them. Two squares are added before they are summed, since processors multiply samples and add the
+// products of neighbours in one step.
 pub fn sum_squares(samples: &[i16]) -> Part
     requires { ⌜ length (now samples) ≤ 256 ⌝ }
     ensures { λ r. ⌜ (r ≡ partOf (now (samples .entry))) × (r .squares ≤ r .count * 2 ^ 30) ⌝ }
 {
-    let mut low: u32 = 0;
-    let mut high: u32 = 0;
+    let mut sum: u64 = 0;
     let mut i: usize = 0;
-    while i < samples.len() {
-        let square = square(samples[i]);
-        low += square % 65536;
-        high += square / 65536;
-        i += 1;
+    while i + 1 < samples.len() {
+        let two = square(samples[i]) + square(samples[i + 1]);
+        sum += two as u64;
+        i += 2;
+    }
+    if i < samples.len() {
+        sum += square(samples[i]) as u64;
     }
     Part {
         count: samples.len() as u32,
-        squares: 65536 * (high as u64) + (low as u64),
+        squares: sum,
     }
 }
 
-// Whether `near` is the root of n.
-fn is_root(n: u64, near: u64) -> bool
-    ensures { λ b. ⌜ (b ≡ true → IsRoot n near) ⌝ }
-{
-    if 4_294_967_295 <= near {
-        return false;
-    }
-    let next = near + 1;
-    if n < near * near {
-        return false;
-    }
-    n < next * next
-}
-
-// The greatest number whose square is at most n: `near` where that is it already, else twice the root of the quarter, or one more.
-pub fn root(n: u64, near: u64) -> u64
+// The greatest number whose square is at most n: `near` where that is it already, else twice the root of the quarter, or one more. `near` is it where n is at
+// most 2 × near beyond its square; one comparison tells, as a difference that wraps is greater than that.
+pub fn root(n: u64, near: u32) -> u64
     ensures { λ r. ⌜ r ≡ rootOf n ⌝ }
 {
     if n == 0 {
         return 0;
     }
-    if is_root(n, near) {
-        return near;
+    let wide = near as u64;
+    if std::num::wrapping_sub_u64(n, wide * wide) <= 2 * wide {
+        return wide;
     }
     let even = 2 * root(n / 4, near / 2);
     let odd = even + 1;
@@ -77,7 +64,7 @@ pub fn rms_value(half_length: u32, first: u64, second: u64, near: u32) -> u32
     ensures { λ r. ⌜ (r ≡ rms «half_length» first second) × (r ≤ 524288) ⌝ }
 {
     let mean_square = 256 * (first + second) / (2 * half_length as u64);
-    root(mean_square, near as u64) as u32
+    root(mean_square, near) as u32
 }
 
 // What is kept of the samples.
@@ -188,17 +175,4 @@ pub fn gather(gatherer: &mut Gatherer, half_length: u32, sample: i16) -> bool
     let gathered = gatherer.with_sample(half_length, sample);
     *gatherer = gathered.gatherer;
     gathered.completed
-}
-
-// The same by value: a copy is lent to the sample.
-pub fn gathered_with(gatherer: Gatherer, half_length: u32, sample: i16) -> Gathered
-    requires { ⌜ ValidGatherer «half_length» gatherer × («half_length» ≤ 256) ⌝ }
-    ensures { λ r. ⌜ r ≡ gathered «half_length» gatherer sample ⌝ }
-{
-    let mut held = gatherer;
-    let completed = gather(&mut held, half_length, sample);
-    Gathered {
-        gatherer: held,
-        completed,
-    }
 }

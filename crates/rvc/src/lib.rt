@@ -3,7 +3,7 @@ use reading::Event;
 use settings::Scaled;
 use threshold::Ended;
 ghost use mathlib.Core.Path.{_≡_};
-ghost use Prim.Native.Nat.{_*_, _≤_, _<_, max};
+ghost use Prim.Native.Nat.{_*_, _≤_, max};
 ghost use Rattle.numbers.specs.Notation.{_<ᵇ_, if_then_else_};
 ghost use Rattle.reading.specs.Changes.{gap};
 ghost use Rattle.rvc.specs.Phase.{changeFrom, grown, closing, heldAt, limitOf, steadyBy, onward, endedOf, movedOn, Joins};

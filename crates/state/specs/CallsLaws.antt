@@ -12,10 +12,10 @@ use Rattle.reading.specs.declared.Told.{Told}
 use Rattle.reading.specs.Engineer.{room}
 use Rattle.rms.specs.Gather.{partOf}
 use Rattle.greedy.specs.Greedy.{fedBy}
-use Rattle.greedy.specs.GreedyLaws.{on, fedBy-bounded}
+use Rattle.greedy.specs.GreedyLaws.{byFirst, fedBy-bounded}
 use Rattle.state.specs.declared.State.{State}
-use Rattle.state.specs.Step.{ends, dueWith, machine}
-use Rattle.state.specs.StepValid.{dueWith-most}
+use Rattle.state.specs.Step.{endsHalf, halfDue, machine}
+use Rattle.state.specs.StepValid.{halfDue-most}
 use Rattle.state.specs.Calls.{fedWith}
 
 -- what feed tells of a block and a lent buffer
@@ -26,11 +26,11 @@ pub record ToldWithin (block : List ℤ) (lent : List ℕ) (t : Told) : Type 0 w
   pub some : 4 ≤ room lent → t .why ≡ 1 → 1 ≤ t .taken
 
 -- one sample has at most four records due
-due-most : (st : State) (x : ℤ) → length (machine .dueWith st x) ≤ 4
-due-most st x = go (ends st x)
+sample-due-most : (st : State) (x : ℤ) → length (machine .dueWith st x) ≤ 4
+sample-due-most st x = go (endsHalf st x)
   where
-    go : (b : Bool) → length (if b then dueWith st (partOf (x ∷ [])) else []) ≤ 4
-    go true = dueWith-most st (partOf (x ∷ []))
+    go : (b : Bool) → length (if b then halfDue st (partOf (x ∷ [])) else []) ≤ 4
+    go true = halfDue-most st (partOf (x ∷ []))
     go false = omega arith
 
 takes-one : (block : List ℤ) (st : State) (n : ℕ) → 4 ≤ n → fedBy machine st block n .why ≡ 1 → 1 ≤ fedBy machine st block n .taken
@@ -38,9 +38,9 @@ unfolding fedBy
 takes-one [] st n four stops = absurd (omega arith)
 takes-one (x ∷ xs) st n four stops = go (machine .atEnd st x) (n <ᵇ length (machine .dueWith st x)) refl stops
   where
-    go : (e f : Bool) → (n <ᵇ length (machine .dueWith st x)) ≡ f → on machine st x xs n e f .why ≡ 1 → 1 ≤ on machine st x xs n e f .taken
+    go : (e f : Bool) → (n <ᵇ length (machine .dueWith st x)) ≡ f → byFirst machine st x xs n e f .why ≡ 1 → 1 ≤ byFirst machine st x xs n e f .taken
     go true f q p = absurd (omega arith)
-    go false true q p = absurd (omega (arith, ltb-true n (length (machine .dueWith st x)) q, due-most st x))
+    go false true q p = absurd (omega (arith, ltb-true n (length (machine .dueWith st x)) q, sample-due-most st x))
     go false false q p = omega arith
 
 pub fedWith-within : (st : State) (block : List ℤ) (lent : List ℕ) → ToldWithin block lent (fedWith st block lent .told)

@@ -46,24 +46,24 @@ valueOut st p = valueFrom (st .settings .samples) (st .gatherer) p
 unfoldable pub passesEnd : State → Part → Bool
 passesEnd st p = lastValue <ᵇ length (valueOut st p) + st .detector .count
 
-unfoldable pub dueWith : State → Part → List Event
-dueWith st p = dueOn (valueOut st p) st
+unfoldable pub halfDue : State → Part → List Event
+halfDue st p = dueOn (valueOut st p) st
 
 unfoldable pub halfJoined : State → Part → State
 halfJoined st p = withValues (valueOut st p) (withGatherer st (withHalf (st .gatherer) p))
 
 -- why such a part is not taken: 2 past V's end, 1 no room for its records; 0 where it is
 abbrev pub whyNot : State → Part → ℕ → ℕ
-whyNot st p room = if passesEnd st p then 2 else if room <ᵇ length (dueWith st p) then 1 else 0
+whyNot st p room = if passesEnd st p then 2 else if room <ᵇ length (halfDue st p) then 1 else 0
 
 -- whether the next sample ends the half-cycle in progress
-abbrev pub ends : State → ℤ → Bool
-ends st x = endsWith (st .settings .samples) (st .gatherer) x
+abbrev pub endsHalf : State → ℤ → Bool
+endsHalf st x = endsWith (st .settings .samples) (st .gatherer) x
 
 -- sample by sample
 abbrev pub machine : Machine State
 machine = record {
-  atEnd = λ st x. if ends st x then passesEnd st (partOf (x ∷ [])) else false;
-  dueWith = λ st x. if ends st x then dueWith st (partOf (x ∷ [])) else [];
-  next = λ st x. if ends st x then halfJoined st (partOf (x ∷ [])) else partJoined st (partOf (x ∷ []));
+  atEnd = λ st x. if endsHalf st x then passesEnd st (partOf (x ∷ [])) else false;
+  dueWith = λ st x. if endsHalf st x then halfDue st (partOf (x ∷ [])) else [];
+  next = λ st x. if endsHalf st x then halfJoined st (partOf (x ∷ [])) else partJoined st (partOf (x ∷ []));
 }

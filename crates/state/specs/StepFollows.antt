@@ -23,7 +23,7 @@ use Rattle.reading.specs.Records.{due}
 use Rattle.reading.specs.Feed.{lastValue, dueAfter, completed, withinEnd}
 use Rattle.reading.specs.Image.{phaseNumber}
 use Rattle.reading.specs.Engineer.{readings}
-use Rattle.reading_laws.specs.Recordings.{length-history, valueCount-grow, history-grow}
+use Rattle.reading_laws.specs.RecordingsLaws.{length-history, valueCount-grow, history-grow}
 use Rattle.rms.specs.declared.Part.{Part}
 use Rattle.rms.specs.declared.Gatherer.{Gatherer}
 use Rattle.rms.specs.Gather.{partOf, withPart, withHalf, valueFrom, gathererOf}
@@ -36,7 +36,7 @@ use Rattle.detection.specs.DetectionFollows.{detector-follows, due-follows}
 use Rattle.greedy.specs.GreedyFollows.{StepsFollow}
 use Rattle.state.specs.declared.State.{State}
 use Rattle.state.specs.State.{fresh, stateWith, stateOf, phaseNumberOf, readingsOf}
-use Rattle.state.specs.Step.{withValue, withValues, dueOn, withGatherer, partJoined, passesEnd, dueWith, halfJoined, ends, machine}
+use Rattle.state.specs.Step.{withValue, withValues, dueOn, withGatherer, partJoined, passesEnd, halfDue, halfJoined, endsHalf, machine}
 
 -- the records due at new values, newest first, after a history
 abbrev dueAll : Settings → List ℕ → List ℕ → List Event
@@ -92,7 +92,7 @@ module _ (s : Settings) (some : 0 < s .samples) (rec : List ℤ) (x : ℤ) where
 
   -- the values that come out with it
   abbrev outs : List ℕ
-  outs = if ends (stateOf s rec) x then valueFrom m g p else []
+  outs = if endsHalf (stateOf s rec) x then valueFrom m g p else []
 
   count-is : length outs + length (values s rec) ≡ valueCount s longer
   count-is =
@@ -100,17 +100,17 @@ module _ (s : Settings) (some : 0 < s .samples) (rec : List ℤ) (x : ℤ) where
 
   pub atEnd-of : valueCount s rec ≤ lastValue → machine .atEnd (stateOf s rec) x ≡ not (withinEnd s rec (x ∷ []) 1)
   unfolding passesEnd
-  atEnd-of within = go (ends (stateOf s rec) x) ∙ ((λ i. lastValue <ᵇ count-is i) ∙ past-not lastValue (valueCount s longer))
+  atEnd-of within = go (endsHalf (stateOf s rec) x) ∙ ((λ i. lastValue <ᵇ count-is i) ∙ past-not lastValue (valueCount s longer))
     where
       go : (b : Bool) → (if b then passesEnd (stateOf s rec) p else false) ≡ (lastValue <ᵇ length (if b then valueFrom m g p else []) + length (values s rec))
       go true = refl
       go false = sym (le-ltb lastValue (0 + length (values s rec)) (omega (arith, length-history s rec (valueCount s rec))))
 
   pub due-of : machine .dueWith (stateOf s rec) x ≡ completed s rec (x ∷ []) 1
-  unfolding dueWith
-  due-of = go (ends (stateOf s rec) x) ∙ (dueOn-follows s g outs (values s rec) ∙ sym completed-is)
+  unfolding halfDue
+  due-of = go (endsHalf (stateOf s rec) x) ∙ (dueOn-follows s g outs (values s rec) ∙ sym completed-is)
     where
-      go : (b : Bool) → (if b then dueWith (stateOf s rec) p else []) ≡ dueOn (if b then valueFrom m g p else []) (stateOf s rec)
+      go : (b : Bool) → (if b then halfDue (stateOf s rec) p else []) ≡ dueOn (if b then valueFrom m g p else []) (stateOf s rec)
       go true = refl
       go false = refl
 
@@ -134,7 +134,7 @@ module _ (s : Settings) (some : 0 < s .samples) (rec : List ℤ) (x : ℤ) where
   pub next-of : machine .next (stateOf s rec) x ≡ stateOf s longer
   unfolding halfJoined
   next-of =
-      go (ends (stateOf s rec) x)
+      go (endsHalf (stateOf s rec) x)
       ∙ ((λ i. withValues outs (stateOn s (gatherer-follows s some rec x i) (values s rec)))
       ∙ (withValues-follows s (gathererOf s longer) outs (values s rec) ∙ ap (stateOn s (gathererOf s longer)) (sym (values-follow s some rec x))))
     where

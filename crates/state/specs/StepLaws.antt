@@ -21,7 +21,7 @@ use Rattle.detection.specs.Detection.{dueAt}
 use Rattle.greedy.specs.Greedy.{Run, stopped, joined, fedBy}
 use Rattle.greedy.specs.GreedyLaws.{fedBy-ends, fedBy-full, fedBy-takes}
 use Rattle.state.specs.declared.State.{State}
-use Rattle.state.specs.Step.{withValue, withValues, dueOn, withGatherer, partJoined, valueOut, passesEnd, dueWith, halfJoined, whyNot, ends, machine}
+use Rattle.state.specs.Step.{withValue, withValues, dueOn, withGatherer, partJoined, valueOut, passesEnd, halfDue, halfJoined, whyNot, endsHalf, machine}
 
 -- the values' steps do not look at the gatherer
 withValues-gatherer : (rs : List ℕ) (st : State) (g : Gatherer) → withValues rs (withGatherer st g) ≡ withGatherer (withValues rs st) g
@@ -42,7 +42,7 @@ endsIn st xs y = record { after = partJoined st (partOf xs); taken = length xs; 
 
 -- a block whose first n samples end the half-cycle, by why they are not taken; a block by its cut
 abbrev byWhy : State → List ℤ → ℕ → ℕ → ℕ → Run State
-byWhy st b room n zero = let p = partOf (take n b) in joined n (dueWith st p) (fedBy machine (halfJoined st p) (drop n b) (room - length (dueWith st p)))
+byWhy st b room n zero = let p = partOf (take n b) in joined n (halfDue st p) (fedBy machine (halfJoined st p) (drop n b) (room - length (halfDue st p)))
 byWhy st b room n (suc y) = endsIn st (take (n - 1) b) (suc y)
 
 abbrev byCut : State → List ℤ → ℕ → Share → Run State
@@ -62,29 +62,29 @@ module _ (st : State) (x : ℤ) where
   next = partJoined st p
 
   -- one sample that leaves the half-cycle in progress
-  step-within : ends st x ≡ false → (xs : List ℤ) (room : ℕ) → fedBy machine st (x ∷ xs) room ≡ joined 1 [] (fedBy machine next xs room)
+  step-within : endsHalf st x ≡ false → (xs : List ℤ) (room : ℕ) → fedBy machine st (x ∷ xs) room ≡ joined 1 [] (fedBy machine next xs room)
   step-within e xs room =
       let r : room - 0 ≡ room = omega arith in
       fedBy-takes machine st x xs room (λ i. if e i then passesEnd st p else false)
-      ((λ i. room <ᵇ length (if e i then dueWith st p else [])) ∙ le-ltb room 0 (omega arith))
+      ((λ i. room <ᵇ length (if e i then halfDue st p else [])) ∙ le-ltb room 0 (omega arith))
       ∙ ((λ i.
-      let due : List Event = if e i then dueWith st p else [] in joined 1 due (fedBy machine (if e i then halfJoined st p else next) xs (room - length due)))
+      let due : List Event = if e i then halfDue st p else [] in joined 1 due (fedBy machine (if e i then halfJoined st p else next) xs (room - length due)))
       ∙ ap (λ (k : ℕ). joined 1 [] (fedBy machine next xs k)) r)
 
   -- one that ends it
-  step-ends : ends st x ≡ true → (xs : List ℤ) (room : ℕ) → fedBy machine st (x ∷ xs) room ≡ byWhy st (x ∷ xs) room 1 (whyNot st p room)
-  step-ends e xs room = go (passesEnd st p) (room <ᵇ length (dueWith st p)) refl refl
+  step-ends : endsHalf st x ≡ true → (xs : List ℤ) (room : ℕ) → fedBy machine st (x ∷ xs) room ≡ byWhy st (x ∷ xs) room 1 (whyNot st p room)
+  step-ends e xs room = go (passesEnd st p) (room <ᵇ length (halfDue st p)) refl refl
     where
       end-is : machine .atEnd st x ≡ passesEnd st p
       end-is = λ i. if e i then passesEnd st p else false
 
-      due-is : machine .dueWith st x ≡ dueWith st p
-      due-is = λ i. if e i then dueWith st p else []
+      due-is : machine .dueWith st x ≡ halfDue st p
+      due-is = λ i. if e i then halfDue st p else []
 
-      full-is : (room <ᵇ length (machine .dueWith st x)) ≡ (room <ᵇ length (dueWith st p))
+      full-is : (room <ᵇ length (machine .dueWith st x)) ≡ (room <ᵇ length (halfDue st p))
       full-is = λ i. room <ᵇ length (due-is i)
 
-      go : (past full : Bool) → passesEnd st p ≡ past → (room <ᵇ length (dueWith st p)) ≡ full
+      go : (past full : Bool) → passesEnd st p ≡ past → (room <ᵇ length (halfDue st p)) ≡ full
           → fedBy machine st (x ∷ xs) room ≡ byWhy st (x ∷ xs) room 1 (if past then 2 else if full then 1 else 0)
       go true full q f = fedBy-ends machine st x xs room (end-is ∙ q) ∙ none-more st 2
       go false true q f = fedBy-full machine st x xs room (end-is ∙ q) (full-is ∙ f) ∙ none-more st 1
@@ -101,8 +101,8 @@ module _ (st : State) (x : ℤ) where
     unfolding passesEnd
     end-adds = λ i. lastValue <ᵇ length (out-adds i) + st .detector .count
 
-    due-adds : dueWith next (partOf ys) ≡ dueWith st (partOf (x ∷ ys))
-    unfolding dueWith
+    due-adds : halfDue next (partOf ys) ≡ halfDue st (partOf (x ∷ ys))
+    unfolding halfDue
     due-adds = (λ i. dueOn (out-adds i) next) ∙ dueOn-gatherer (valueOut st (partOf (x ∷ ys))) st (next .gatherer)
 
     half-joins : halfJoined next (partOf ys) ≡ halfJoined st (partOf (x ∷ ys))
@@ -120,7 +120,7 @@ module _ (st : State) (x : ℤ) where
     by-why zero y h = absurd (omega arith)
     by-why (suc n) zero h =
         let ys = take (suc n) xs in
-        let due = dueWith st (partOf (x ∷ ys)) in
+        let due = halfDue st (partOf (x ∷ ys)) in
         let r : Run State = fedBy machine (halfJoined st (partOf (x ∷ ys))) (drop (suc n) xs) (room - length due) in
         let c : 1 + (suc n + r .taken) ≡ suc (suc n) + r .taken = omega arith in
         (λ i. joined 1 [] (joined (suc n) (due-adds ys i) (fedBy machine (half-joins ys i) (drop (suc n) xs) (room - length (due-adds ys i)))))
@@ -141,12 +141,12 @@ module _ (st : State) (x : ℤ) where
 feed-cut : (b : List ℤ) (st : State) (room : ℕ) → st .gatherer .count < st .settings .samples → fedBy machine st b room ≡ byCut st b room (cutOf st b)
 unfolding fedBy
 feed-cut [] st room h = rw (cut-none (st .settings .samples) (st .gatherer) h) (none-more st 0)
-feed-cut (x ∷ xs) st room h = rw (cut-cons (st .settings .samples) (st .gatherer) h x xs) (go (ends st x) refl (feed-cut xs (next st x) room))
+feed-cut (x ∷ xs) st room h = rw (cut-cons (st .settings .samples) (st .gatherer) h x xs) (go (endsHalf st x) refl (feed-cut xs (next st x) room))
   where
     c : Share
     c = cutOf (next st x) xs
 
-    go : (b : Bool) → ends st x ≡ b → (next st x .gatherer .count < st .settings .samples → fedBy machine (next st x) xs room ≡ byCut (next st x) xs room c)
+    go : (b : Bool) → endsHalf st x ≡ b → (next st x .gatherer .count < st .settings .samples → fedBy machine (next st x) xs room ≡ byCut (next st x) xs room c)
         → fedBy machine st (x ∷ xs) room ≡ byCut st (x ∷ xs) room (if b then record { count = 1; completes = true } else oneMore c)
     go true e ih = step-ends st x e xs room
     go false e ih =
@@ -174,7 +174,7 @@ module _ (st : State) (b : List ℤ) (room : ℕ) (h : st .gatherer .count < st 
     half-is = fed-is ∙ rw ends
 
     pub feed-taken : whyNot st half room ≡ 0
-        → fedBy machine st b room ≡ joined n (dueWith st half) (fedBy machine (halfJoined st half) (drop n b) (room - length (dueWith st half)))
+        → fedBy machine st b room ≡ joined n (halfDue st half) (fedBy machine (halfJoined st half) (drop n b) (room - length (halfDue st half)))
     feed-taken why = half-is ∙ ap (byWhy st b room n) why
 
     pub feed-stops : (y : ℕ) → y ≡ whyNot st half room → 0 < y

@@ -1,4 +1,4 @@
--- What holds of every state: parts and every feed keep it, and the state that a recording leaves and the fresh one have it. One sample has at most four
+-- What holds of every state: parts keep it, and the state that a recording leaves and the fresh one have it. One sample has at most four
 -- records due, so with room for four a feed takes a sample before V's end.
 use mathlib.Core.Path.{_≡_, refl, sym, _∙_, ap}
 use mathlib.Core.Bool.{Bool, true, false, true≢false}
@@ -8,18 +8,17 @@ use native.Mathlib.Omega.{arith}
 use lib.ListN.{length}
 use lib.IntN.{ℤ}
 use borrow.Author.Tests.{ltb-false, le-ltb}
-use Rattle.numbers.specs.Notation.{_<ᵇ_, if_then_else_}
+use Rattle.numbers.specs.Notation.{if_then_else_}
 use Rattle.settings.specs.declared.Settings.{Settings}
 use Rattle.settings.specs.Settings.{windowLength, ValidSettings}
 use Rattle.settings.specs.SettingsLaws.{windowLength-some, windowLength-most}
-use Rattle.reading.specs.Values.{Sample, Samples, halves, valueCount, history, values}
+use Rattle.reading.specs.Values.{Samples, halves, valueCount, history, values}
 use Rattle.reading.specs.Feed.{lastValue}
-use Rattle.reading_laws.specs.Recordings.{length-history, value-le}
+use Rattle.reading_laws.specs.RecordingsLaws.{length-history, value-le}
 use Rattle.rms.specs.declared.Part.{Part}
 use Rattle.rms.specs.declared.Gatherer.{Gatherer}
 use Rattle.rms.specs.Gather.{partOf, withHalf, ValidGatherer, PartFits}
-use Rattle.rms.specs.CutLaws.{next-below}
-use Rattle.rms.specs.GatherLaws.{value-none, value-one, value-most, partOf-fits, withPart-valid, withHalf-valid}
+use Rattle.rms.specs.GatherLaws.{value-none, value-one, value-most, withPart-valid, withHalf-valid}
 use Rattle.rms.specs.GatherLaws as gatherer
 use Rattle.rms.specs.GatherFollows.{gathererOf-valid}
 use Rattle.window.specs.Window.{Small}
@@ -27,11 +26,11 @@ use Rattle.window.specs.WindowValid.{pushed-valid, windowOf-valid}
 use Rattle.detection.specs.Detection.{detectorAfter}
 use Rattle.detection.specs.DetectionValid.{detectorAfter-valid, due-most, detectorOf-valid}
 use Rattle.greedy.specs.Greedy.{fedBy}
-use Rattle.greedy.specs.GreedyLaws.{fedBy-cons, fedBy-takes}
+use Rattle.greedy.specs.GreedyLaws.{fedBy-takes}
 use Rattle.greedy.specs.GreedyFollows.{Recording}
 use Rattle.state.specs.declared.State.{State}
 use Rattle.state.specs.State.{fresh, stateOf, ValidState}
-use Rattle.state.specs.Step.{withValue, withValues, dueOn, withGatherer, partJoined, valueOut, passesEnd, dueWith, halfJoined, ends, machine}
+use Rattle.state.specs.Step.{withValue, withValues, dueOn, withGatherer, partJoined, valueOut, passesEnd, halfDue, halfJoined, endsHalf, machine}
 use Rattle.state.specs.StepFollows.{halves-none, fresh-is}
 
 -- a value into a state
@@ -85,35 +84,6 @@ module _ (st : State) (p : Part) (ok : ValidState st) (fits : PartFits (st .sett
           let out = value-one m (st .gatherer) p w in
           rw out (withValue-valid _ half (gatherer.value-le m (st .gatherer) p (ok .gatherer-valid) fits) refl (omega (arith, room, ap length out)) half-valid)
 
--- a sample, and a feed
-next-valid : (st : State) (x : ℤ) → Sample x → ValidState st → machine .atEnd st x ≡ false → ValidState (machine .next st x)
-next-valid st x sample ok = go (ends st x) refl
-  where
-    p : Part
-    p = partOf (x ∷ [])
-
-    fits : PartFits (st .settings .samples) (st .gatherer) p
-    fits = partOf-fits (st .settings .samples) (st .gatherer) (x ∷ []) (sample, tt) (omega (arith, ok .gatherer-valid))
-
-    go : (b : Bool) → ends st x ≡ b → (if b then passesEnd st p else false) ≡ false → ValidState (if b then halfJoined st p else partJoined st p)
-    go true e within = halfJoined-valid st p ok fits within
-    go false e within = partJoined-valid st p ok fits (next-below (st .settings .samples) (st .gatherer) (ok .gatherer-valid .count-lt) x e)
-
-pub fedBy-valid : (block : List ℤ) (st : State) (room : ℕ) → Samples block → ValidState st → ValidState (fedBy machine st block room .after)
-unfolding fedBy
-fedBy-valid [] st room are ok = ok
-fedBy-valid (x ∷ xs) st room are ok =
-    go (machine .atEnd st x) (room <ᵇ length (machine .dueWith st x)) refl refl (fedBy-valid xs (machine .next st x) later (are .1))
-  where
-    later : ℕ
-    later = room - length (machine .dueWith st x)
-
-    go : (e f : Bool) → machine .atEnd st x ≡ e → (room <ᵇ length (machine .dueWith st x)) ≡ f →
-        (ValidState (machine .next st x) → ValidState (fedBy machine (machine .next st x) xs later .after)) → ValidState (fedBy machine st (x ∷ xs) room .after)
-    go true f p q ih = rw (fedBy-cons machine st x xs room true f p q) ok
-    go false true p q ih = rw (fedBy-cons machine st x xs room false true p q) ok
-    go false false p q ih = rw (fedBy-cons machine st x xs room false false p q) (ih (next-valid st x (are .0) ok p))
-
 -- the state that a recording leaves; the fresh one
 history-small : (s : Settings) (rec : List ℤ) → Samples rec → 0 < s .samples → (i : ℕ) → Small (history s rec i)
 history-small s rec are some zero j = omega arith
@@ -143,9 +113,9 @@ fresh-valid s valid =
     rw (fresh-is s some) (stateOf-valid s [] valid (recording-none s))
 
 -- the records due with a part are four at most
-pub dueWith-most : (st : State) (p : Part) → length (dueWith st p) ≤ 4
-unfolding dueWith
-dueWith-most st p = go (valueOut st p) (value-most (st .settings .samples) (st .gatherer) p)
+pub halfDue-most : (st : State) (p : Part) → length (halfDue st p) ≤ 4
+unfolding halfDue
+halfDue-most st p = go (valueOut st p) (value-most (st .settings .samples) (st .gatherer) p)
   where
     go : (rs : List ℕ) → length rs ≤ 1 → length (dueOn rs st) ≤ 4
     go [] one = omega arith
@@ -157,7 +127,7 @@ unfolding passesEnd
 within-end st p below = le-ltb lastValue (length (valueOut st p) + st .detector .count) (omega (arith, value-most (st .settings .samples) (st .gatherer) p))
 
 pub takes-some : (st : State) (x : ℤ) (xs : List ℤ) (room : ℕ) → st .detector .count < lastValue → 4 ≤ room → 1 ≤ fedBy machine st (x ∷ xs) room .taken
-takes-some st x xs room below four = rw (fedBy-takes machine st x xs room (past-not (ends st x)) (le-ltb room _ (fits (ends st x)))) (omega arith)
+takes-some st x xs room below four = rw (fedBy-takes machine st x xs room (past-not (endsHalf st x)) (le-ltb room _ (fits (endsHalf st x)))) (omega arith)
   where
     p : Part
     p = partOf (x ∷ [])
@@ -166,6 +136,6 @@ takes-some st x xs room below four = rw (fedBy-takes machine st x xs room (past-
     past-not true = within-end st p below
     past-not false = refl
 
-    fits : (b : Bool) → length (if b then dueWith st p else []) ≤ room
-    fits true = omega (arith, dueWith-most st p)
+    fits : (b : Bool) → length (if b then halfDue st p else []) ≤ room
+    fits true = omega (arith, halfDue-most st p)
     fits false = omega arith

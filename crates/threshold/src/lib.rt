@@ -3,7 +3,7 @@ use reading::Event;
 use reading::Kind;
 use settings::Threshold;
 ghost use mathlib.Core.Path.{_≡_};
-ghost use Prim.Native.Nat.{_*_, _≤_, min, max};
+ghost use Prim.Native.Nat.{_≤_, min, max};
 ghost use Rattle.threshold.specs.Standing.{beginsAt, endsAt, worse, noEvent, worsened, stepped, endedAt};
 
 // What is kept of an event: its start, and its magnitude so far. 0 and 0 where none stands.

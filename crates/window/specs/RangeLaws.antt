@@ -29,11 +29,18 @@ module _ (n a q : ℕ) (some : 0 < n) (x : ℕ) where
       let low : suc x ≤ lowest n a q = le-div-iff-mul-le some .1 (omega (arith, mul-comm n x, suc-mul x n)) in
       and-fails _ (lt-leb (lowest n a q) x (omega arith))
 
+  lowest-le : a ≤ n * x + q → lowest n a q ≤ x
+  lowest-le h = let low : lowest n a q < suc x = div-lt-iff-lt-mul some .1 (omega (arith, mul-comm n x, suc-mul x n)) in omega arith
+
+  le-highest : n * x ≤ a + q → x ≤ highest n a q
+  le-highest h = le-div-iff-mul-le some .1 (omega (arith, mul-comm n x))
+
   pub in-range : n * x ≤ a + q → a ≤ n * x + q → between (lowest n a q) (highest n a q) x ≡ true
-  in-range above below =
-      let low : lowest n a q < suc x = div-lt-iff-lt-mul some .1 (omega (arith, mul-comm n x, suc-mul x n)) in
-      let high : x ≤ highest n a q = le-div-iff-mul-le some .1 (omega (arith, mul-comm n x)) in
-      both (le-leb (lowest n a q) x (omega arith)) (le-leb x (highest n a q) high)
+  in-range above below = both (le-leb (lowest n a q) x (lowest-le below)) (le-leb x (highest n a q) (le-highest above))
+
+  -- so the ends are in order
+  pub lowest-le-highest : n * x ≤ a + q → a ≤ n * x + q → lowest n a q ≤ highest n a q
+  lowest-le-highest above below = omega (arith, lowest-le below, le-highest above)
 
 -- 10000 × |n × x − a| ≤ limit is that range, with q = limit / 10000
 module _ (n a limit : ℕ) (some : 0 < n) where

@@ -2,7 +2,7 @@
 use mathlib.Core.Path.{_≡_, refl, ap, sym, _∙_}
 use mathlib.Core.Bool.{Bool, true, false, _&&_, and-assoc}
 use mathlib.Core.List.{List, [], _∷_, _++_}
-use Prim.Native.Nat.{ℕ, zero, suc, _+_, _-_, _≤_, _<_}
+use Prim.Native.Nat.{ℕ, suc, _+_, _-_, _≤_, _<_}
 use native.Mathlib.Omega.{arith}
 use lib.ListN.{length, take, drop, set, getD, length-drop}
 use lib.Seq.{length-take-le, take-append-add, take-suc-set}
@@ -40,13 +40,6 @@ module _ (n v r : ℕ) (w : List ℕ) (some : 0 < n) (full : n ≤ suc v) (long 
   pub sum-after : sum (take n (pushed n v w r)) ≡ sum (staying n v w) + r
   sum-after = ap sum take-pushed ∙ omega (arith, sum-append (staying n v w) (r ∷ []))
 
--- the full window before it
+-- what leaves the full window
 pub leaving-full : (n v : ℕ) (w : List ℕ) → n ≤ v → leaving n v w ≡ getD w 0 0
 leaving-full n v w full = rw (le-ltb v n full)
-
-pub sum-before : (n v : ℕ) (w : List ℕ) → 0 < n → n ≤ v → n ≤ length w → sum (take n w) ≡ sum (staying n v w) + leaving n v w
-sum-before zero v w some full long = absurd (omega arith)
-sum-before (suc m) v [] some full long = absurd (omega arith)
-sum-before (suc m) v (x ∷ w) some full long =
-    let d : suc m - 1 ≡ m = omega arith in
-    rw (le-ltb v (suc m) full, d) (omega arith)

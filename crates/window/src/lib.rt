@@ -48,18 +48,21 @@ pub fn sum_of(part: &[u32]) -> u64
     sum
 }
 
-// Whether every value lies from `lowest` to `highest`. All are tested, without a way out, so that the loop runs in lanes.
+// Whether every value lies from `lowest` to `highest`. One comparison tells of a value: its distance from `lowest` wraps where it lies below, and is then
+// greater than the width. All are tested, without a way out, so that the loop runs in lanes.
 pub fn all_between(part: &[u32], lowest: u32, highest: u32) -> bool
+    requires { ⌜ lowest ≤ highest ⌝ }
     ensures { λ b. ⌜ b ≡ all (between lowest highest) (now (part .entry)) ⌝ }
 {
-    let mut inside = true;
+    let width = highest - lowest;
+    let mut outside = false;
     let mut i: usize = 0;
     while i < part.len() {
-        let x = part[i];
-        inside = inside & ((lowest <= x) & (x <= highest));
+        let distance = std::num::wrapping_sub_u32(part[i], lowest);
+        outside = outside | (width < distance);
         i += 1;
     }
-    inside
+    !outside
 }
 
 // Whether a window, the newest value and those of `part`, is calm: each value, times the window's length, lies within `limit` of the window's sum. In a

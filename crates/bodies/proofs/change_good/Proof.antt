@@ -14,7 +14,7 @@ use Rattle.bodies.proofs.change_good.Tie as tie
 -- the test, and what is left of it from each rule on
 module _ (s : tie.Start) where
   abbrev whole : Bool
-  whole = changeTest (s .args .size) (s .args .values) (s .args .change)
+  whole = changeTest (s .args .window-length) (s .args .values) (s .args .change)
 
   abbrev between : Bool
   between = s .args .change .start ≤ᵇ s .args .change .stand && s .args .change .stand ≤ᵇ s .args .values
@@ -23,13 +23,13 @@ module _ (s : tie.Start) where
   from-stand = s .args .change .stand ≡ᵇ 0 || between
 
   abbrev from-early : Bool
-  from-early = earlyTest (s .args .size) (s .args .values) (s .args .change) && from-stand
+  from-early = earlyTest (s .args .window-length) (s .args .values) (s .args .change) && from-stand
 
   abbrev from-difference : Bool
-  from-difference = s .args .change .difference ≤ᵇ s .args .size * 524288 && from-early
+  from-difference = s .args .change .difference ≤ᵇ s .args .window-length * 524288 && from-early
 
   abbrev from-sum : Bool
-  from-sum = s .args .change .sum ≤ᵇ s .args .size * 524288 && from-difference
+  from-sum = s .args .change .sum ≤ᵇ s .args .window-length * 524288 && from-difference
 
   abbrev from-seen : Bool
   from-seen = s .args .change .start ≤ᵇ s .args .values && from-sum

@@ -14,11 +14,11 @@ sub-if1 c = search needs
 
 returns : tie.Need-returns
 unfolding earlyTest
-returns c = let a = c .before .before .args in sym (condition-fails _ (le-ltb (a .values) (a .change .start + a .size) (omega arith)))
+returns c = let a = c .before .before .args in sym (condition-fails _ (le-ltb (a .values) (a .change .start + a .window-length) (omega arith)))
 
 returns-2 : tie.Need-returns-2
 unfolding earlyTest
-returns-2 c = let a = c .before .before .before .args in sym (condition-holds _ (lt-ltb (a .values) (a .change .start + a .size) (omega arith)))
+returns-2 c = let a = c .before .before .before .args in sym (condition-holds _ (lt-ltb (a .values) (a .change .start + a .window-length) (omega arith)))
 
 pub early-good-spec : {M : Type 1} → statement M
 early-good-spec = tie.close (tie.spec sub-if1 returns returns-2)

@@ -14,18 +14,18 @@ use Rattle.bodies.proofs.phase_good.Tie as tie
 -- the test, and what is left of it from each rule on
 module _ (s : tie.Start) where
   abbrev whole : Bool
-  whole = phaseTest (s .args .size) (s .args .values) (s .args .number) (s .args .change)
+  whole = phaseTest (s .args .window-length) (s .args .values) (s .args .number) (s .args .change)
 
   abbrev change-by : Bool → Bool
   change-by t =
       let c = s .args .change in
-      if t then changeTest (s .args .size) (s .args .values) c else all (_≡ᵇ 0) (c .start ∷ c .sum ∷ c .difference ∷ c .stand ∷ [])
+      if t then changeTest (s .args .window-length) (s .args .values) c else all (_≡ᵇ 0) (c .start ∷ c .sum ∷ c .difference ∷ c .stand ∷ [])
 
   abbrev from-change : Bool
   from-change = change-by (s .args .number ≡ᵇ 3)
 
   abbrev from-filling : Bool
-  from-filling = iff (s .args .number ≡ᵇ 0) (s .args .values <ᵇ s .args .size) && from-change
+  from-filling = iff (s .args .number ≡ᵇ 0) (s .args .values <ᵇ s .args .window-length) && from-change
 
 behind-number : (c : tie.Else1) → whole (c .before) ≡ from-filling (c .before)
 unfolding phaseTest

@@ -7,7 +7,7 @@ use lib.ListN.{length, take, drop, getD, drop-of-length-le}
 use borrow.Author.Needs.{needs}
 use Rattle.octets.specs.Bytes.{bytesOf, words}
 use Rattle.octets.specs.BytesLaws.{length-bytesOf}
-use Rattle.octets.specs.Parts.{bytesOf-part}
+use Rattle.octets.specs.PartsLaws.{bytesOf-part}
 use Rattle.octets.proofs.Loops.{drop-one, part-more, all-stand}
 use Rattle.bodies.proofs.put_counts.Statement.{statement}
 use Rattle.bodies.proofs.put_counts.Tie as tie

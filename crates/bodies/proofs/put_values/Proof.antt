@@ -1,7 +1,7 @@
 -- V and the window stand in the two parts, one behind the other.
 use native.Mathlib.Omega.{arith}
 use borrow.Author.Needs.{needs}
-use Rattle.octets.specs.Parts.{bytesOf-part}
+use Rattle.octets.specs.PartsLaws.{bytesOf-part}
 use Rattle.bodies.proofs.Sections.{values-put}
 use Rattle.bodies.proofs.put_values.Statement.{statement}
 use Rattle.bodies.proofs.put_values.Tie as tie

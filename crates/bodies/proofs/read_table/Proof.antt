@@ -9,7 +9,7 @@ use Rattle.numbers.specs.NotationLaws.{and-true}
 use Rattle.reading.specs.Image.{table}
 use Rattle.reading.specs.Restore.{sameBytes}
 use Rattle.bodies.specs.Bodies.{verdictOf, tableAnswer}
-use Rattle.bodies.specs.BodiesFacts.{same-equal}
+use Rattle.bodies.specs.BodiesValid.{same-equal}
 use Rattle.bodies.proofs.read_table.Statement.{statement}
 use Rattle.bodies.proofs.read_table.Tie as tie
 

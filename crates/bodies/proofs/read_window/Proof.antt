@@ -7,7 +7,7 @@ use native.Mathlib.Omega.{arith}
 use lib.ListN.{drop}
 use borrow.Author.Needs.{needs}
 use Rattle.octets.specs.Bytes.{numberAt, wordsAt}
-use Rattle.octets.specs.Parts.{wordsAt-part}
+use Rattle.octets.specs.PartsLaws.{wordsAt-part}
 use Rattle.settings.specs.declared.Settings.{Settings}
 use Rattle.settings.specs.Settings.{windowLength}
 use Rattle.numbers.specs.Notation.{_≤ᵇ_, _≡ᵇ_, all}

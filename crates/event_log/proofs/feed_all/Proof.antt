@@ -8,8 +8,8 @@ use lib.Seq.{length-take-le}
 use borrow.Author.Needs.{needs}
 use borrow.Author.Tests.{ne-eqb}
 use Rattle.state.specs.State.{ValidState}
-use Rattle.event_log.specs.Taken.{takenFrom}
-use Rattle.event_log.specs.TakenLaws.{rest, toFeed, turn-fits, turn-inside, turn-rest, turn-less}
+use Rattle.event_log.specs.FedAll.{fedAllFrom}
+use Rattle.event_log.specs.FedAllLaws.{rest, toFeed, turn-fits, turn-inside, turn-rest, turn-less}
 use Rattle.event_log.proofs.feed_all.Statement.{statement}
 use Rattle.event_log.proofs.feed_all.Tie as tie
 
@@ -19,7 +19,7 @@ Inv-loop samples records₀ text₀ held₀ at₀ why₀ records text held at wh
     × (at ≤ length samples)
     × (length records ≡ length records₀)
     × (length text ≡ length text₀)
-    × (takenFrom held₀ samples ≡ rest samples held at why)
+    × (fedAllFrom held₀ samples ≡ rest samples held at why)
 
 abbrev μ-loop : tie.MeasureT-loop
 μ-loop samples records₀ text₀ held₀ at₀ why₀ records text held at why = toFeed samples at why

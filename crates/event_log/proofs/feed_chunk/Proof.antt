@@ -7,7 +7,7 @@ use lib.Seq.{length-take-le, take-all}
 use borrow.Author.Needs.{needs}
 use Rattle.samples.specs.Samples.{samplesOf}
 use Rattle.samples.specs.SamplesLaws.{length-samples, samplesOf-take}
-use Rattle.event_log.specs.Taken.{takenFrom}
+use Rattle.event_log.specs.FedAll.{fedAllFrom}
 use Rattle.event_log.proofs.feed_chunk.Statement.{statement}
 use Rattle.event_log.proofs.feed_chunk.Tie as tie
 
@@ -36,7 +36,7 @@ returns c =
     let bytes = args .bytes .now in
     let count = length bytes / 2 in (
       fed .ensures .0
-          ∙ ap (takenFrom (args .logger))
+          ∙ ap (fedAllFrom (args .logger))
           (c .before .before .before .before .decode .ensures
           ∙ samplesOf-take count bytes (omega arith)
           ∙ take-all count (samplesOf bytes) (omega (arith, length-samples bytes))),

@@ -6,7 +6,7 @@ use Prim.Native.Nat.{_<_}
 use lib.ListN.{length}
 use borrow.Author.Needs.{needs}
 use Rattle.state.specs.State.{ValidState}
-use Rattle.event_log.specs.TakenLaws.{leftWhile, chunks-end}
+use Rattle.event_log.specs.FedAllLaws.{leftWhile, chunk-falls}
 use Rattle.event_log.proofs.log.Statement.{statement}
 use Rattle.event_log.proofs.log.Tie as tie
 
@@ -53,7 +53,7 @@ loop-less c =
     let test = call .before .before .before .before .before in
     let loop = test .before .loop in
     subst⁻¹ (λ (more : Bool). leftWhile (c .goes-on .result) (call .feed-chunk .result .logger .state) < leftWhile more (loop .logger .state)) (test .loop-test .taken)
-    (chunks-end _ _ _ _ _ (loop .inv .0) (sym (read .ensures .1)) (call .feed-chunk .ensures .0) (c .goes-on .ensures))
+    (chunk-falls _ _ _ _ _ (loop .inv .0) (sym (read .ensures .1)) (call .feed-chunk .ensures .0) (c .goes-on .ensures))
 
 loop-again : tie.Need-loop-again Inv-loop μ-loop
 loop-again c = search needs

@@ -4,12 +4,12 @@ use Prim.Native.Nat.{_-_, _≤_}
 use native.Mathlib.Omega.{arith}
 use lib.ListN.{length}
 use borrow.Author.Needs.{needs}
-use Rattle.event_log.specs.TextLaws.{Begun, put-none, put-one, put-all}
+use Rattle.event_log.specs.TextLaws.{PutSoFar, put-none, put-one, put-all}
 use Rattle.event_log.proofs.put.Statement.{statement}
 use Rattle.event_log.proofs.put.Tie as tie
 
 abbrev Inv-loop : tie.InvT-loop
-Inv-loop text₀ at bytes i₀ text i = (i ≤ length bytes) × (length text ≡ length text₀) × Begun text₀ at bytes i text
+Inv-loop text₀ at bytes i₀ text i = (i ≤ length bytes) × (length text ≡ length text₀) × PutSoFar text₀ at bytes i text
 
 abbrev μ-loop : tie.MeasureT-loop
 μ-loop text₀ at bytes i₀ text i = length bytes - i

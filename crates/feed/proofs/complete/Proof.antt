@@ -17,31 +17,36 @@ with-half-requires c κs =
 
 returns : tie.Need-returns
 returns c =
-    let start = c .before .before .before .before in
+    let at-with-half = c .before in
+    let start = at-with-half .before .before .before in
     let a = start .args in
-    first-half (start .pre) (a .records .now) (not-true (a .gatherer .whole) (c .if1 .taken)) (c .before .with-half .result) (c .before .with-half .ensures)
+    first-half (start .pre) (a .records .now) (not-true (a .gatherer .whole) (c .if1 .taken)) (at-with-half .with-half .result) (at-with-half .with-half .ensures)
 
 refused-requires : tie.Need-refused-requires
 refused-requires c κs = search needs
 
 returns-2 : tie.Need-returns-2
 returns-2 c =
-    let start = c .before .before .before .before .before .before in
+    let second = c .before in
+    let first = second .before in
+    let start = first .before .before .before .before in
     let a = start .args in
-    end-half (start .pre) (a .records .now) (not-false (a .gatherer .whole) (c .before .before .if1 .left)) (c .before .if2 .taken) (c .refused .result) (c .refused .ensures)
+    end-half (start .pre) (a .records .now) (not-false (a .gatherer .whole) (first .if1 .left)) (second .if2 .taken) (c .refused .result) (c .refused .ensures)
 
 window-length-requires : tie.Need-window-length-requires
 window-length-requires c κs = search needs
 
 newest-requires : tie.Need-newest-requires
 newest-requires c κs =
-    let start = c .before .before .before .before .before .before .before in
-    (omega (arith, c .before .window-length .ensures .1), omega (arith, c .before .window-length .ensures .2, start .pre .valid .window-valid .size))
+    let at-window-length = c .before in
+    let start = at-window-length .before .before .before .before .before .before in
+    (omega (arith, at-window-length .window-length .ensures .1), omega (arith, at-window-length .window-length .ensures .2, start .pre .valid .window-valid .size))
 
 rms-value-requires : tie.Need-rms-value-requires
 rms-value-requires c κs =
-    let start = c .before .before .before .before .before .before .before .before in
-    let last-is = ap (λ (g : Gatherer). g .last) (c .before .before .before .before .before .with-half .ensures) in
+    let at-with-half = c .before .before .before .before .before in
+    let start = at-with-half .before .before .before in
+    let last-is = ap (λ (g : Gatherer). g .last) (at-with-half .with-half .ensures) in
     let v = start .pre .valid in (
       omega (arith, v .settings-valid .samples-least),
       omega (arith, v .settings-valid .samples-most),
@@ -50,7 +55,11 @@ rms-value-requires c κs =
     )
 
 try-value-requires : tie.Need-try-value-requires
-try-value-requires c κs = ready (c .before .before .before .before .before .before .before .before .before .before .pre) (c .before .rms-value .result) (c .before .rms-value .ensures .1) (c .before .before .before .before .before .if2 .left)
+try-value-requires c κs =
+    let at-rms-value = c .before in
+    let second = at-rms-value .before .before .before .before in
+    let start = second .before .before .before .before .before in
+    ready (start .pre) (at-rms-value .rms-value .result) (at-rms-value .rms-value .ensures .1) (second .if2 .left)
 
 count-requires : tie.Need-count-requires
 count-requires c κs = search needs
@@ -63,20 +72,31 @@ same-length c = search needs
 
 returns-3 : tie.Need-returns-3
 returns-3 c =
-    let start = c .before .before .before .before .before .before .before .before .before .before .before .before .before .before .before in
+    let third = c .before in
+    let at-count = third .before in
+    let at-try-value = at-count .before .before in
+    let at-rms-value = at-try-value .before .before in
+    let second = at-rms-value .before .before .before .before in
+    let first = second .before in
+    let at-with-half = first .before in
+    let start = at-with-half .before .before .before in
     let a = start .args in
-    let tried = c .before .before .before .before .try-value in
-    full-half (start .pre) (a .records .now) (not-false (a .gatherer .whole) (c .before .before .before .before .before .before .before .before .before .before .before .if1 .left)) (c .before .before .before .before .before .before .before .before .before .before .if2 .left) (c .before .before .before .before .before .before .before .before .before .before .before .before .with-half .result) (c .before .before .before .before .before .before .before .before .before .before .before .before .with-half .ensures)
-    (c .before .before .before .before .before .before .rms-value .result) (c .before .before .before .before .before .before .rms-value .ensures .0) (tried .result) (tried .ensures) (c .before .before .count .result) (c .before .before .count .ensures)
-    (c .before .if3 .taken) (c .refused2 .result) (c .refused2 .ensures)
+    let tried = at-try-value .try-value in
+    full-half (start .pre) (a .records .now) (not-false (a .gatherer .whole) (first .if1 .left)) (second .if2 .left) (at-with-half .with-half .result) (at-with-half .with-half .ensures)
+    (at-rms-value .rms-value .result) (at-rms-value .rms-value .ensures .0) (tried .result) (tried .ensures) (at-count .count .result) (at-count .count .ensures)
+    (third .if3 .taken) (c .refused2 .result) (c .refused2 .ensures)
 
 push-requires : tie.Need-push-requires
 push-requires c κs =
-    let start = c .before .before .before .before .before .before .before .before .before .before .before .before .before .before .before in
-    (omega (arith, c .before .before .before .before .before .before .before .before .before .window-length .ensures .1), omega (arith, c .before .before .before .before .before .before .before .before .before .window-length .ensures .2, start .pre .valid .window-valid .size))
+    let at-window-length = c .before .before .before .before .before .before .before .before .before in
+    let start = at-window-length .before .before .before .before .before .before in
+    (omega (arith, at-window-length .window-length .ensures .1), omega (arith, at-window-length .window-length .ensures .2, start .pre .valid .window-valid .size))
 
 put-requires : tie.Need-put-requires
-put-requires c κs = omega (arith, c .before .before .before .before .before .before .count .ensures, c .before .before .before .before .before .if3 .left)
+put-requires c κs =
+    let third = c .before .before .before .before .before in
+    let at-count = third .before in
+    omega (arith, at-count .count .ensures, third .if3 .left)
 
 same-length-2 : tie.Need-same-length-2
 same-length-2 c = search needs
@@ -86,14 +106,24 @@ same-length-3 c = search needs
 
 returns-4 : tie.Need-returns-4
 returns-4 c =
-    let start = c .before .before .before .before .before .before .before .before .before .before .before .before .before .before .before .before .before .before .before .before .before .before .before in
+    let at-put = c .before .before .before in
+    let at-push = at-put .before .before .before .before in
+    let third = at-push .before .before in
+    let at-count = third .before in
+    let at-try-value = at-count .before .before in
+    let at-rms-value = at-try-value .before .before in
+    let at-window-length = at-rms-value .before .before .before in
+    let second = at-window-length .before in
+    let first = second .before in
+    let at-with-half = first .before in
+    let start = at-with-half .before .before .before in
     let a = start .args in
-    let tried = c .before .before .before .before .before .before .before .before .before .before .before .before .try-value in
-    let value = c .before .before .before .before .before .before .before .before .before .before .before .before .before .before .rms-value in
-    taken-half (start .pre) (a .records .now) (not-false (a .gatherer .whole) (c .before .before .before .before .before .before .before .before .before .before .before .before .before .before .before .before .before .before .before .if1 .left)) (c .before .before .before .before .before .before .before .before .before .before .before .before .before .before .before .before .before .before .if2 .left) (c .before .before .before .before .before .before .before .before .before .before .before .before .before .before .before .before .before .before .before .before .with-half .result) (c .before .before .before .before .before .before .before .before .before .before .before .before .before .before .before .before .before .before .before .before .with-half .ensures)
-    (value .result) (value .ensures .0) (tried .result) (tried .ensures) (c .before .before .before .before .before .before .before .before .before .before .count .result) (c .before .before .before .before .before .before .before .before .before .before .count .ensures)
-    (omega (arith, c .before .before .before .before .before .before .before .before .before .if3 .left)) (c .before .before .before .before .before .before .before .push .last .0) (c .before .before .before .put .last .1 .0)
-    (c .before .before .before .before .before .before .before .push .ensures ∙ ap (λ (n : ℕ). pushed n (a .detector .count) (a .window .now) (value .result)) (c .before .before .before .before .before .before .before .before .before .before .before .before .before .before .before .before .before .window-length .ensures .0)) (c .before .before .before .put .ensures)
+    let tried = at-try-value .try-value in
+    let value = at-rms-value .rms-value in
+    taken-half (start .pre) (a .records .now) (not-false (a .gatherer .whole) (first .if1 .left)) (second .if2 .left) (at-with-half .with-half .result) (at-with-half .with-half .ensures)
+    (value .result) (value .ensures .0) (tried .result) (tried .ensures) (at-count .count .result) (at-count .count .ensures)
+    (omega (arith, third .if3 .left)) (at-push .push .last .0) (at-put .put .last .1 .0)
+    (at-push .push .ensures ∙ ap (λ (n : ℕ). pushed n (a .detector .count) (a .window .now) (value .result)) (at-window-length .window-length .ensures .0)) (at-put .put .ensures)
 
 pub complete-spec : {M : Type 1} → statement M
 complete-spec =

@@ -39,7 +39,10 @@ add-end : tie.Need-add-end Inv-loop μ-loop
 add-end c = search needs
 
 mul-behind : tie.Need-mul-behind Inv-loop μ-loop
-mul-behind c = omega (arith, c .before .before .loop .inv .0 .fits, c .before .before .before .before .before .good)
+mul-behind c =
+    let turn = c .before .before in
+    let start = turn .before .before .before in
+    omega (arith, turn .loop .inv .0 .fits, start .good)
 
 sub-decode : tie.Need-sub-decode Inv-loop μ-loop
 sub-decode c = search needs
@@ -51,35 +54,50 @@ part-decode-end : tie.Need-part-decode-end Inv-loop μ-loop
 part-decode-end c = search needs
 
 array-borrow-prefix-samples : tie.Need-array-borrow-prefix-samples Inv-loop μ-loop
-array-borrow-prefix-samples c = omega (arith, c .before .chunk-of .ensures, c .before .before .before .loop .inv .1)
+array-borrow-prefix-samples c =
+    let at-chunk-of = c .before in
+    let turn = at-chunk-of .before .before in
+    omega (arith, at-chunk-of .chunk-of .ensures, turn .loop .inv .1)
 
 slice-aggregate-decode : tie.Need-slice-aggregate-decode Inv-loop μ-loop
 slice-aggregate-decode c =
-    let l = c .before .before .before .before .loop in
-    let k = c .before .before .chunk-of in
+    let at-chunk-of = c .before .before in
+    let turn = at-chunk-of .before .before in
+    let l = turn .loop in
+    let k = at-chunk-of .chunk-of in
     sym (length-take-le (k .result) (l .samples) (omega (arith, k .ensures, l .inv .1)))
 
 decode-requires : tie.Need-decode-requires Inv-loop μ-loop
 decode-requires c κs =
-    let l = c .before .before .before .before .loop in
-    simp (length-take, length-drop) (omega (arith, c .before .before .chunk-of .ensures, l .inv .0 .inside, l .inv .1))
+    let at-chunk-of = c .before .before in
+    let turn = at-chunk-of .before .before in
+    let l = turn .loop in
+    simp (length-take, length-drop) (omega (arith, at-chunk-of .chunk-of .ensures, l .inv .0 .inside, l .inv .1))
 
 array-share-prefix-samples : tie.Need-array-share-prefix-samples Inv-loop μ-loop
 array-share-prefix-samples c =
-    let l = c .before .before .before .before .before .before .loop in
-    let read = c .before .decode in
-    let k = c .before .before .before .before .chunk-of in
+    let at-decode = c .before in
+    let at-chunk-of = at-decode .before .before .before in
+    let turn = at-chunk-of .before .before in
+    let l = turn .loop in
+    let read = at-decode .decode in
+    let k = at-chunk-of .chunk-of in
     omega (arith, k .ensures, l .inv .1, length-front (l .samples) (read .last .1 .0) (k .result) (read .kept .1 .0))
 
 slice-aggregate-feed : tie.Need-slice-aggregate-feed Inv-loop μ-loop
 slice-aggregate-feed c =
-    let l = c .before .before .before .before .before .before .before .loop in
-    let read = c .before .before .decode in
-    let k = c .before .before .before .before .before .chunk-of in
+    let at-decode = c .before .before in
+    let at-chunk-of = at-decode .before .before .before in
+    let turn = at-chunk-of .before .before in
+    let l = turn .loop in
+    let read = at-decode .decode in
+    let k = at-chunk-of .chunk-of in
     sym (length-take-le (k .result) _ (omega (arith, k .ensures, l .inv .1, length-front (l .samples) (read .last .1 .0) (k .result) (read .kept .1 .0))))
 
 sub-feed : tie.Need-sub-feed Inv-loop μ-loop
-sub-feed c = omega (arith, c .before .before .before .before .before .before .before .loop .inv .0 .fits, c .before .before .before .before .before .before .before .loop .inv .0 .long)
+sub-feed c =
+    let turn = c .before .before .before .before .before .before .before in
+    omega (arith, turn .loop .inv .0 .fits, turn .loop .inv .0 .long)
 
 part-feed-start : tie.Need-part-feed-start Inv-loop μ-loop
 part-feed-start c = search needs
@@ -88,62 +106,93 @@ part-feed-end : tie.Need-part-feed-end Inv-loop μ-loop
 part-feed-end c = search needs
 
 feed-requires : tie.Need-feed-requires Inv-loop μ-loop
-feed-requires c κs = c .before .before .before .before .before .before .before .before .loop .inv .0 .so-far .valid
+feed-requires c κs =
+    let turn = c .before .before .before .before .before .before .before .before in
+    turn .loop .inv .0 .so-far .valid
 
 add-written : tie.Need-add-written Inv-loop μ-loop
 add-written c =
-    let l = c .before .before .before .before .before .before .before .before .before .before .before .before .before .before .loop in
-    let read = c .before .before .before .before .before .before .before .before .before .decode in
-    let k = c .before .before .before .before .before .before .before .before .before .before .before .before .chunk-of in
-    let fed = c .before .before .before .before .before .feed in
+    let at-feed = c .before .before .before .before .before in
+    let at-decode = at-feed .before .before .before .before in
+    let at-chunk-of = at-decode .before .before .before in
+    let turn = at-chunk-of .before .before in
+    let start = turn .before .before .before in
+    let l = turn .loop in
+    let read = at-decode .decode in
+    let k = at-chunk-of .chunk-of in
+    let fed = at-feed .feed in
     let fits = written-fit (l .inv .0) (omega (arith, k .ensures, l .inv .0 .inside)) (l .samples)
     (read .kept .1 .0 ∙ length-take-le (k .result) (l .samples) (omega (arith, k .ensures, l .inv .1))) (read .ensures) (fed .ensures) in
-    let h : l .written + fed .result .told .written < 2 ^ 64 = omega (arith, fits, c .before .before .before .before .before .before .before .before .before .before .before .before .before .before .before .before .before .good) in
+    let h : l .written + fed .result .told .written < 2 ^ 64 = omega (arith, fits, start .good) in
     record { fits = h }
 
 add-taken : tie.Need-add-taken Inv-loop μ-loop
 add-taken c =
-    let l = c .before .before .before .before .before .before .before .before .before .before .before .before .before .before .before .before .before .loop in
-    let read = c .before .before .before .before .before .before .before .before .before .before .before .before .decode in
-    let k = c .before .before .before .before .before .before .before .before .before .before .before .before .before .before .before .chunk-of in
-    let fed = c .before .before .before .before .before .before .before .before .feed in
+    let at-feed = c .before .before .before .before .before .before .before .before in
+    let at-decode = at-feed .before .before .before .before in
+    let at-chunk-of = at-decode .before .before .before in
+    let turn = at-chunk-of .before .before in
+    let start = turn .before .before .before in
+    let l = turn .loop in
+    let read = at-decode .decode in
+    let k = at-chunk-of .chunk-of in
+    let fed = at-feed .feed in
     let few = taken-few (l .inv .0) (omega (arith, k .ensures, l .inv .0 .inside)) (l .samples)
     (read .kept .1 .0 ∙ length-take-le (k .result) (l .samples) (omega (arith, k .ensures, l .inv .1))) (read .ensures) (fed .ensures) in
-    let h : l .at + fed .result .told .taken < 2 ^ 64 = omega (arith, few, k .ensures, l .inv .0 .inside, c .before .before .before .before .before .before .before .before .before .before .before .before .before .before .before .before .before .before .before .before .good) in
+    let h : l .at + fed .result .told .taken < 2 ^ 64 = omega (arith, few, k .ensures, l .inv .0 .inside, start .good) in
     record { fits = h }
 
 same-length : tie.Need-same-length Inv-loop μ-loop
 same-length c =
-    let l = c .before .before .before .before .before .before .before .before .before .before .before .before .before .before .before .before .before .loop in
-    let fed = c .before .before .before .before .before .before .before .before .feed in
+    let at-feed = c .before .before .before .before .before .before .before .before in
+    let turn = at-feed .before .before .before .before .before .before .before .before .before in
+    let l = turn .loop in
+    let fed = at-feed .feed in
     same-len-mid (20 * l .written) (length (l .records) - 20 * l .written) (l .records) (fed .last .1 .1 .0) (fed .kept .1 .1 .0) ∙ l .inv .0 .long
 
 returns : tie.Need-returns Inv-loop μ-loop
 returns c =
-    let l = c .before .before .before .before .before .before .before .before .before .before .before .before .before .before .before .before .before .loop in
-    let read = c .before .before .before .before .before .before .before .before .before .before .before .before .decode in
-    let k = c .before .before .before .before .before .before .before .before .before .before .before .before .before .before .before .chunk-of in
-    let fed = c .before .before .before .before .before .before .before .before .feed in
+    let first = c .before in
+    let at-feed = first .before .before .before .before .before .before .before in
+    let at-decode = at-feed .before .before .before .before in
+    let at-chunk-of = at-decode .before .before .before in
+    let turn = at-chunk-of .before .before in
+    let l = turn .loop in
+    let read = at-decode .decode in
+    let k = at-chunk-of .chunk-of in
+    let fed = at-feed .feed in
     chunks-stop (l .inv .0) (omega (arith, k .ensures, l .inv .0 .inside)) (l .samples)
-    (read .kept .1 .0 ∙ length-take-le (k .result) (l .samples) (omega (arith, k .ensures, l .inv .1))) (read .ensures) (fed .ensures) (omega (arith, c .before .if1 .taken))
+    (read .kept .1 .0 ∙ length-take-le (k .result) (l .samples) (omega (arith, k .ensures, l .inv .1))) (read .ensures) (fed .ensures) (omega (arith, first .if1 .taken))
 
 add-at : tie.Need-add-at Inv-loop μ-loop
-add-at c = omega (arith, c .before .before .before .before .before .before .before .before .before .before .before .before .before .before .chunk-of .ensures, c .before .before .before .before .before .before .before .before .before .before .before .before .before .before .before .before .loop .inv .0 .inside, c .before .before .before .before .before .before .before .before .before .before .before .before .before .before .before .before .before .before .before .good)
+add-at c =
+    let at-chunk-of = c .before .before .before .before .before .before .before .before .before .before .before .before .before .before in
+    let turn = at-chunk-of .before .before in
+    let start = turn .before .before .before in
+    omega (arith, at-chunk-of .chunk-of .ensures, turn .loop .inv .0 .inside, start .good)
 
 loop-less : tie.Need-loop-less Inv-loop μ-loop
 loop-less c =
-    let b = c .before .before .before .before .before .before .before .before .before .before .before .before .before .before .before .before .before .before .before .args .bytes .now in
-    let l = c .before .before .before .before .before .before .before .before .before .before .before .before .before .before .before .before .loop in
-    let k = c .before .before .before .before .before .before .before .before .before .before .before .before .before .before .chunk-of in
-    let h : length b / 2 - (l .at + k .result) < length b / 2 - l .at = omega (arith, k .ensures, c .before .before .before .before .before .before .before .before .before .before .before .before .before .before .before .loop-test .taken) in
+    let at-chunk-of = c .before .before .before .before .before .before .before .before .before .before .before .before .before .before in
+    let tested = at-chunk-of .before in
+    let turn = tested .before in
+    let start = turn .before .before .before in
+    let b = start .args .bytes .now in
+    let l = turn .loop in
+    let k = at-chunk-of .chunk-of in
+    let h : length b / 2 - (l .at + k .result) < length b / 2 - l .at = omega (arith, k .ensures, tested .loop-test .taken) in
     h
 
 loop-again : tie.Need-loop-again Inv-loop μ-loop
 loop-again c =
-    let l = c .before .before .before .before .before .before .before .before .before .before .before .before .before .before .before .before .loop in
-    let read = c .before .before .before .before .before .before .before .before .before .before .before .decode in
-    let k = c .before .before .before .before .before .before .before .before .before .before .before .before .before .before .chunk-of in
-    let fed = c .before .before .before .before .before .before .before .feed in (
+    let at-feed = c .before .before .before .before .before .before .before in
+    let at-decode = at-feed .before .before .before .before in
+    let at-chunk-of = at-decode .before .before .before in
+    let turn = at-chunk-of .before .before in
+    let l = turn .loop in
+    let read = at-decode .decode in
+    let k = at-chunk-of .chunk-of in
+    let fed = at-feed .feed in (
       chunks-turn (l .inv .0) (omega (arith, k .ensures, l .inv .0 .inside)) (l .samples)
           (read .kept .1 .0 ∙ length-take-le (k .result) (l .samples) (omega (arith, k .ensures, l .inv .1))) (read .ensures) (fed .ensures) (omega (arith, c .if1 .left))
           (same-len-mid (20 * l .written) (length (l .records) - 20 * l .written) (l .records) (fed .last .1 .1 .0) (fed .kept .1 .1 .0)),

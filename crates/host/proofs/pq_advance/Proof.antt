@@ -21,21 +21,39 @@ enum-told c = search needs
 
 returns : tie.Need-returns
 returns c =
-    let a = c .before .before .before .before .before .before .before .before .before .before .before .before .args in
-    let r = c .before .before .before .before .restore in
-    odd-refused (a .image .now) (a .samples .now) (a .next .now) (a .records .now) (a .reply .now) (c .before .before .before .before .before .start .result .state) (r .result .logger .state) (r .result .answer) (r .ensures .0) (c .before .enum-told .given .1) (c .if1 .taken)
+    let at-enum-told = c .before in
+    let at-restore = at-enum-told .before .before .before in
+    let at-start = at-restore .before in
+    let start = at-start .before .before .before .before .before .before .before in
+    let a = start .args in
+    let r = at-restore .restore in
+    odd-refused (a .image .now) (a .samples .now) (a .next .now) (a .records .now) (a .reply .now)
+    (at-start .start .result .state) (r .result .logger .state) (r .result .answer) (r .ensures .0) (at-enum-told .enum-told .given .1) (c .if1 .taken)
 
 returns-2 : tie.Need-returns-2
 returns-2 c =
-    let a = c .before .before .before .before .before .before .before .before .before .before .before .before .before .args in
-    let r = c .before .before .before .before .before .restore in
-    next-refused (a .image .now) (a .samples .now) (a .next .now) (a .records .now) (a .reply .now) (c .before .before .before .before .before .before .start .result .state) (r .result .logger .state) (r .result .answer) (r .ensures .0) (c .before .before .enum-told .given .1) (c .before .if1 .left) (c .if2 .taken)
+    let first = c .before in
+    let at-enum-told = first .before in
+    let at-restore = at-enum-told .before .before .before in
+    let at-start = at-restore .before in
+    let start = at-start .before .before .before .before .before .before .before in
+    let a = start .args in
+    let r = at-restore .restore in
+    next-refused (a .image .now) (a .samples .now) (a .next .now) (a .records .now) (a .reply .now)
+    (at-start .start .result .state) (r .result .logger .state) (r .result .answer) (r .ensures .0) (at-enum-told .enum-told .given .1) (first .if1 .left) (c .if2 .taken)
 
 returns-3 : tie.Need-returns-3
 returns-3 c =
-    let a = c .before .before .before .before .before .before .before .before .before .before .before .before .before .before .args in
-    let r = c .before .before .before .before .before .before .restore in
-    reply-refused (a .image .now) (a .samples .now) (a .next .now) (a .records .now) (a .reply .now) (c .before .before .before .before .before .before .before .start .result .state) (r .result .logger .state) (r .result .answer) (r .ensures .0) (c .before .before .before .enum-told .given .1) (c .before .before .if1 .left) (c .before .if2 .left) (c .if3 .taken)
+    let second = c .before in
+    let first = second .before in
+    let at-enum-told = first .before in
+    let at-restore = at-enum-told .before .before .before in
+    let at-start = at-restore .before in
+    let start = at-start .before .before .before .before .before .before .before in
+    let a = start .args in
+    let r = at-restore .restore in
+    reply-refused (a .image .now) (a .samples .now) (a .next .now) (a .records .now) (a .reply .now)
+    (at-start .start .result .state) (r .result .logger .state) (r .result .answer) (r .ensures .0) (at-enum-told .enum-told .given .1) (first .if1 .left) (second .if2 .left) (c .if3 .taken)
 
 feed-chunks-requires : tie.Need-feed-chunks-requires
 feed-chunks-requires c κs = search needs
@@ -48,9 +66,14 @@ save-requires c κs = search needs
 
 returns-4 : tie.Need-returns-4
 returns-4 c =
-    let a = c .before .before .before .before .before .before .before .before .before .before .before .before .args in
-    let r = c .before .before .before .before .restore in
-    image-refused (a .image .now) (a .samples .now) (a .next .now) (a .records .now) (a .reply .now) (c .before .before .before .before .before .start .result .state) (r .result .logger .state) (r .result .answer) (r .ensures .0) _ (c .before .answer .given .1)
+    let at-answer = c .before in
+    let at-restore = at-answer .before .before .before in
+    let at-start = at-restore .before in
+    let start = at-start .before .before .before .before .before .before .before in
+    let a = start .args in
+    let r = at-restore .restore in
+    image-refused (a .image .now) (a .samples .now) (a .next .now) (a .records .now) (a .reply .now)
+    (at-start .start .result .state) (r .result .logger .state) (r .result .answer) (r .ensures .0) _ (at-answer .answer .given .1)
 
 same-length : tie.Need-same-length
 same-length c = search needs
@@ -63,11 +86,22 @@ same-length-3 c = search needs
 
 returns-5 : tie.Need-returns-5
 returns-5 c =
-    let a = c .before .before .before .before .before .before .before .before .before .before .before .before .before .before .before .before .before .before .before .before .before .before .before .before .before .before .before .before .args in
-    let r = c .before .before .before .before .before .before .before .before .before .before .before .before .before .before .before .before .before .before .before .before .restore in
-    let fed = c .before .before .before .before .before .before .before .before .before .before .before .before .feed-chunks in
-    all-done (a .image .now) (a .samples .now) (a .next .now) (a .records .now) (a .reply .now) (c .before .before .before .before .before .before .before .before .before .before .before .before .before .before .before .before .before .before .before .before .before .start .result .state) (r .result .logger .state) (r .result .answer) (r .ensures .0) (c .before .before .before .before .before .before .before .before .before .before .before .before .before .before .before .before .before .enum-told .given .1) (c .before .before .before .before .before .before .before .before .before .before .before .before .before .before .before .before .if1 .left) (c .before .before .before .before .before .before .before .before .before .before .before .before .before .before .before .if2 .left) (c .before .before .before .before .before .before .before .before .before .before .before .before .before .before .if3 .left)
-    (fed .result .logger .state) (fed .result .told) _ _ _ _ (fed .ensures) (c .before .before .before .before .before .before .put-reply .ensures) (c .before .before .save .ensures)
+    let at-save = c .before .before in
+    let at-put-reply = at-save .before .before .before .before in
+    let at-feed-chunks = at-put-reply .before .before .before .before .before .before in
+    let third = at-feed-chunks .before .before in
+    let second = third .before in
+    let first = second .before in
+    let at-enum-told = first .before in
+    let at-restore = at-enum-told .before .before .before in
+    let at-start = at-restore .before in
+    let start = at-start .before .before .before .before .before .before .before in
+    let a = start .args in
+    let r = at-restore .restore in
+    let fed = at-feed-chunks .feed-chunks in
+    all-done (a .image .now) (a .samples .now) (a .next .now) (a .records .now) (a .reply .now)
+    (at-start .start .result .state) (r .result .logger .state) (r .result .answer) (r .ensures .0) (at-enum-told .enum-told .given .1) (first .if1 .left) (second .if2 .left) (third .if3 .left)
+    (fed .result .logger .state) (fed .result .told) _ _ _ _ (fed .ensures) (at-put-reply .put-reply .ensures) (at-save .save .ensures)
 
 pub pq-advance-spec : {M : Type 1} → statement M
 pq-advance-spec =

@@ -48,8 +48,12 @@ same-length c = search needs
 
 returns : tie.Need-returns
 returns c =
-    let a = c .before .before .before .before .before .before .before .before .before .before .before .before .before .before .args in
-    reply-is (a .told) (a .reply .now) _ _ _ (c .before .before .before .before .before .before .before .before .before .before .before .put-u64 .ensures) (c .before .before .before .before .before .before .before .put-u642 .ensures) (c .before .before .put-u643 .ensures)
+    let at-put-u643 = c .before .before in
+    let at-put-u642 = at-put-u643 .before .before .before .before .before in
+    let at-put-u64 = at-put-u642 .before .before .before .before in
+    let start = at-put-u64 .before .before .before in
+    let a = start .args in
+    reply-is (a .told) (a .reply .now) _ _ _ (at-put-u64 .put-u64 .ensures) (at-put-u642 .put-u642 .ensures) (at-put-u643 .put-u643 .ensures)
 
 pub put-reply-spec : {M : Type 1} → statement M
 put-reply-spec =

@@ -7,7 +7,9 @@ use Rattle.image.proofs.save.Statement.{statement}
 use Rattle.image.proofs.save.Tie as tie
 
 returns : tie.Need-returns
-returns c = let start = c .before .before in short-saved (start .args .image .now) (start .args .state) (c .if1 .taken)
+returns c =
+    let start = c .before .before in
+    short-saved (start .args .image .now) (start .args .t1) (c .if1 .taken)
 
 sub-put-table : tie.Need-sub-put-table
 sub-put-table c = search needs
@@ -54,9 +56,6 @@ part-put-values-start c = search needs
 part-put-values-end : tie.Need-part-put-values-end
 part-put-values-end c = search needs
 
-slice-aggregate-put-values : tie.Need-slice-aggregate-put-values
-slice-aggregate-put-values c = search needs
-
 put-values-requires : tie.Need-put-values-requires
 put-values-requires c κs = search needs
 
@@ -77,16 +76,17 @@ same-length c = search needs
 
 returns-2 : tie.Need-returns-2
 returns-2 c =
-    let put-5 = c .before .before in
-    let put-4 = put-5 .before .before .before .before in
-    let put-3 = put-4 .before .before .before .before .before in
-    let put-2 = put-3 .before .before .before .before in
-    let put-1 = put-2 .before .before .before .before in
-    let tested = put-1 .before .before .before .before .before .before in
-    let st = tested .before .before .args .state in
-    let size : length (st .window) ≡ 120 = put-values-requires (put-4 .before) (put-4 .put-values .lifetimes) .1 in
-    long-saved (tested .before .before .args .image .now) st (tested .if1 .left) size _ _ _ _ _ (put-1 .put-table .ensures) (put-2 .write .ensures)
-    (put-3 .put-gatherer .ensures) (put-4 .put-values .ensures) (put-5 .put-detector .ensures)
+    let at-put-detector = c .before .before in
+    let at-put-values = at-put-detector .before .before .before .before in
+    let at-put-gatherer = at-put-values .before .before .before .before .before .before .before in
+    let at-write = at-put-gatherer .before .before .before .before in
+    let at-put-table = at-write .before .before .before .before in
+    let first = at-put-table .before .before .before .before .before in
+    let start = first .before .before in
+    let st = start .args .t1 in
+    let size : length (st .window) ≡ 120 = search needs in
+    long-saved (start .args .image .now) st (first .if1 .left) size _ _ _ _ _ (at-put-table .put-table .ensures) (at-write .write .ensures)
+    (at-put-gatherer .put-gatherer .ensures) (at-put-values .put-values .ensures) (at-put-detector .put-detector .ensures)
 
 pub save-spec : {M : Type 1} → statement M
 save-spec =
@@ -108,7 +108,6 @@ save-spec =
     sub-put-values
     part-put-values-start
     part-put-values-end
-    slice-aggregate-put-values
     put-values-requires
     sub-put-detector
     part-put-detector-start

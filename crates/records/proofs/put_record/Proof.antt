@@ -8,7 +8,7 @@ use lib.ListN.{length, drop, length-drop, drop-of-length-le}
 use borrow.Author.Needs.{needs}
 use borrow.Rule.Slice.PartMut.{putMid}
 use Rattle.octets.specs.Bytes.{bytesOf}
-use Rattle.octets.specs.Parts.{bytesOf-part}
+use Rattle.octets.specs.PartsLaws.{bytesOf-part}
 use Rattle.reading.specs.declared.Event.{Event}
 use Rattle.reading.specs.Records.{recordBytes}
 use Rattle.records.proofs.put_record.Statement.{statement}

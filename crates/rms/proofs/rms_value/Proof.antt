@@ -2,7 +2,7 @@
 use Prim.Native.Nat.{_≤_}
 use native.Mathlib.Omega.{arith}
 use borrow.Author.Needs.{needs}
-use Rattle.reading_laws.specs.Recordings.{rms-le}
+use Rattle.reading_laws.specs.RecordingsLaws.{rms-le}
 use Rattle.rms.proofs.rms_value.Statement.{statement}
 use Rattle.rms.proofs.rms_value.Tie as tie
 

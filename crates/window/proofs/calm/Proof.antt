@@ -8,7 +8,7 @@ use borrow.Author.Needs.{needs}
 use Rattle.numbers.specs.Notation.{all}
 use Rattle.numbers.specs.NotationLaws.{and-fails, and-passes}
 use Rattle.window.specs.Range.{highest, between}
-use Rattle.window.specs.RangeLaws.{above-range, below-range, in-range}
+use Rattle.window.specs.RangeLaws.{above-range, below-range, in-range, lowest-le-highest}
 use Rattle.window.proofs.calm.Statement.{statement}
 use Rattle.window.proofs.calm.Tie as tie
 
@@ -60,7 +60,9 @@ cast-highest : tie.Need-cast-highest
 cast-highest c = record { fits = lt-of-le-of-lt (div-le-self _ _) (omega arith) }
 
 all-between-requires : tie.Need-all-between-requires
-all-between-requires c κs = search needs
+all-between-requires c κs =
+    let a = c .before .before .before .before .args in
+    rw (c .minus .ensures) (lowest-le-highest (a .window-length) (a .sum) (a .limit) (omega arith) (a .newest) (omega arith) (omega arith))
 
 returns-3 : tie.Need-returns-3
 returns-3 c =

@@ -33,16 +33,21 @@ phase-number-requires c κs = search needs
 returns : tie.Need-returns
 unfolding readingsOf
 returns c =
-    let st = c .before .before .before .before .before .before .before .before .before .before .before .before .before .before .before .args .self in
+    let at-phase-number = c .before .before .before in
+    let at-full-sum = at-phase-number .before in
+    let at-newest = at-full-sum .before .before in
+    let at-window-length = at-newest .before .before .before .before .before in
+    let start = at-window-length .before .before .before .before in
+    let st = start .args .self in
     let d = st .detector in
-    let length-is = c .before .before .before .before .before .before .before .before .before .before .before .window-length .ensures .0 in
-    let value-is = c .before .before .before .before .before .before .newest .ensures ∙ ap (λ (n : ℕ). getD (st .window) (min (d .count) n - 1) 0) length-is in
-    let sum-is = c .before .before .before .before .full-sum .ensures ∙ ap (λ (n : ℕ). if d .count <ᵇ n then 0 else sum (take n (st .window))) length-is in
+    let length-is = at-window-length .window-length .ensures .0 in
+    let value-is = at-newest .newest .ensures ∙ ap (λ (n : ℕ). getD (st .window) (min (d .count) n - 1) 0) length-is in
+    let sum-is = at-full-sum .full-sum .ensures ∙ ap (λ (n : ℕ). if d .count <ᵇ n then 0 else sum (take n (st .window))) length-is in
     λ i. record {
       count = d .count;
       value = value-is i;
       sum = sum-is i;
-      phase = c .before .before .before .phase-number .ensures i;
+      phase = at-phase-number .phase-number .ensures i;
       dip = 0 <ᵇ d .dip .start;
       swell = 0 <ᵇ d .swell .start;
       interruption = 0 <ᵇ d .interruption .start;
@@ -51,4 +56,12 @@ returns c =
 pub look-spec : {M : Type 1} → statement M
 look-spec =
     tie.close
-    (tie.spec window-length-requires slice-aggregate-newest newest-requires cast-t14 slice-aggregate-full-sum full-sum-requires phase-number-requires returns)
+    (tie.spec
+    window-length-requires
+    slice-aggregate-newest
+    newest-requires
+    cast-t14
+    slice-aggregate-full-sum
+    full-sum-requires
+    phase-number-requires
+    returns)

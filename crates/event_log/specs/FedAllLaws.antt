@@ -1,4 +1,4 @@
--- The laws of `takenFrom`: a feed with room for a few records leaves the rest of it to take, and with room for four a turn is progress; and chunks come to an
+-- The laws of `fedAllFrom`: a feed with room for a few records leaves the rest of it to take, and with room for four a turn is progress; and chunks come to an
 -- end, for what is left to V's end falls with each sample that is taken.
 use mathlib.Core.Path.{_≡_, refl, sym, _∙_, ap, subst⁻¹}
 use mathlib.Core.Bool.{Bool, true, false, _&&_}
@@ -21,33 +21,33 @@ use Rattle.rms.specs.CutLaws.{next-below}
 use Rattle.rms.specs.GatherLaws.{value-none, value-one}
 use Rattle.detection.specs.Detection.{detectorAfter}
 use Rattle.greedy.specs.Greedy.{Run, fedBy}
-use Rattle.greedy.specs.GreedyLaws.{on}
+use Rattle.greedy.specs.GreedyLaws.{byFirst}
 use Rattle.state.specs.declared.State.{State}
 use Rattle.state.specs.State.{ValidState}
-use Rattle.state.specs.Step.{partJoined, valueOut, passesEnd, halfJoined, ends, machine}
+use Rattle.state.specs.Step.{partJoined, valueOut, passesEnd, halfJoined, endsHalf, machine}
 use Rattle.state.specs.Calls.{fedWith}
 use Rattle.state.specs.CallsLaws.{ToldWithin, fedWith-within}
 use Rattle.logger.specs.declared.Logger.{Logger}
 use Rattle.logger.specs.Logger.{fedTo}
-use Rattle.event_log.specs.declared.Taken.{Taken}
-use Rattle.event_log.specs.Taken.{takenFrom}
+use Rattle.event_log.specs.declared.FedAll.{FedAll}
+use Rattle.event_log.specs.FedAll.{fedAllFrom}
 
 abbrev logger : State → Logger
 logger st = record { state = st }
 
 -- samples that begin with x, by whether x would pass V's end
-abbrev byEnd : State → ℤ → List ℤ → Bool → Taken
-byEnd st x xs e = if e then record { logger = logger st; why = 2 } else takenFrom (logger (machine .next st x)) xs
+abbrev byEnd : State → ℤ → List ℤ → Bool → FedAll
+byEnd st x xs e = if e then record { logger = logger st; why = 2 } else fedAllFrom (logger (machine .next st x)) xs
 
 -- what a feed that took n samples leaves to take: the others where it stopped for want of room, else none
-abbrev pub rest : List ℤ → Logger → ℕ → ℕ → Taken
-rest xs l n why = if why ≡ᵇ 1 then takenFrom l (drop n xs) else record { logger = l; why = why }
+abbrev pub rest : List ℤ → Logger → ℕ → ℕ → FedAll
+rest xs l n why = if why ≡ᵇ 1 then fedAllFrom l (drop n xs) else record { logger = l; why = why }
 
-abbrev restOf : List ℤ → Run State → Taken
+abbrev restOf : List ℤ → Run State → FedAll
 restOf xs r = rest xs (logger (r .after)) (r .taken) (r .why)
 
-taken-fed : (xs : List ℤ) (st : State) (room : ℕ) → takenFrom (logger st) xs ≡ restOf xs (fedBy machine st xs room)
-unfolding takenFrom fedBy
+taken-fed : (xs : List ℤ) (st : State) (room : ℕ) → fedAllFrom (logger st) xs ≡ restOf xs (fedBy machine st xs room)
+unfolding fedAllFrom fedBy
 taken-fed [] st room = refl
 taken-fed (x ∷ xs) st room =
     go (machine .atEnd st x) (room <ᵇ length (machine .dueWith st x)) refl (taken-fed xs (machine .next st x) (room - length (machine .dueWith st x)))
@@ -55,8 +55,8 @@ taken-fed (x ∷ xs) st room =
     later : Run State
     later = fedBy machine (machine .next st x) xs (room - length (machine .dueWith st x))
 
-    go : (e f : Bool) → machine .atEnd st x ≡ e → takenFrom (logger (machine .next st x)) xs ≡ restOf xs later
-        → byEnd st x xs e ≡ restOf (x ∷ xs) (on machine st x xs room e f)
+    go : (e f : Bool) → machine .atEnd st x ≡ e → fedAllFrom (logger (machine .next st x)) xs ≡ restOf xs later
+        → byEnd st x xs e ≡ restOf (x ∷ xs) (byFirst machine st x xs room e f)
     go true f p ih = refl
     go false true p ih = sym (ap (byEnd st x xs) p)
     go false false p ih = let n : suc (later .taken) ≡ 1 + later .taken = omega arith in ih ∙ (λ i. rest (x ∷ xs) (logger (later .after)) (n i) (later .why))
@@ -80,12 +80,12 @@ module _ (xs : List ℤ) (at : ℕ) (lent : List ℕ) (st : State) {end : State}
   pub turn-inside : at ≤ length xs → at + told .taken ≤ length xs
   turn-inside inside = omega (arith, within .most, length-drop at xs)
 
-  pub turn-rest : takenFrom (logger st) (drop at xs) ≡ rest xs (logger end) (at + told .taken) (told .why)
+  pub turn-rest : fedAllFrom (logger st) (drop at xs) ≡ rest xs (logger end) (at + told .taken) (told .why)
   unfolding fedWith
   turn-rest =
       taken-fed (drop at xs) st (room lent)
       ∙ ap (λ (o : Outcome State). rest (drop at xs) (logger (o .after)) (o .told .taken) (o .told .why)) (sym fed-is)
-      ∙ (λ i. if told .why ≡ᵇ 1 then takenFrom (logger end) (drop-drop (told .taken) at xs i) else record { logger = logger end; why = told .why })
+      ∙ (λ i. if told .why ≡ᵇ 1 then fedAllFrom (logger end) (drop-drop (told .taken) at xs i) else record { logger = logger end; why = told .why })
 
   pub turn-less : at ≤ length xs → 80 ≤ length lent → toFeed xs (at + told .taken) (told .why) < toFeed xs at 1
   turn-less inside four = go (told .why ≡ᵇ 1) refl
@@ -106,7 +106,7 @@ InHalf st = (st .settings .samples ≤ 256) × (st .gatherer .count < st .settin
 
 left-next : (st : State) (x : ℤ) → InHalf st → machine .atEnd st x ≡ false → InHalf (machine .next st x) × (left (machine .next st x) < left st)
 unfolding passesEnd halfJoined detectorAfter
-left-next st x inside = go (ends st x) refl
+left-next st x inside = go (endsHalf st x) refl
   where
     p : Part
     p = partOf (x ∷ [])
@@ -123,12 +123,12 @@ left-next st x inside = go (ends st x) refl
         let one = value-one m (st .gatherer) p w in
         rw one ((inside .0, omega arith), omega (arith, ap length one, ltb-false lastValue (length (valueOut st p) + st .detector .count) below))
 
-    go : (b : Bool) → ends st x ≡ b → (if b then passesEnd st p else false) ≡ false → Less (if b then halfJoined st p else partJoined st p)
+    go : (b : Bool) → endsHalf st x ≡ b → (if b then passesEnd st p else false) ≡ false → Less (if b then halfJoined st p else partJoined st p)
     go true e below = half (st .gatherer .whole) refl below
     go false e below = let more = next-below m (st .gatherer) (inside .1) x e in ((inside .0, more), omega arith)
 
-left-taken : (xs : List ℤ) (st : State) → InHalf st → takenFrom (logger st) xs .why ≡ 0 → left (takenFrom (logger st) xs .logger .state) + length xs ≤ left st
-unfolding takenFrom
+left-taken : (xs : List ℤ) (st : State) → InHalf st → fedAllFrom (logger st) xs .why ≡ 0 → left (fedAllFrom (logger st) xs .logger .state) + length xs ≤ left st
+unfolding fedAllFrom
 left-taken [] st inside = λ all. omega arith
 left-taken (x ∷ xs) st inside = go (machine .atEnd st x) refl (left-taken xs (machine .next st x))
   where
@@ -142,14 +142,14 @@ left-taken (x ∷ xs) st inside = go (machine .atEnd st x) refl (left-taken xs (
 abbrev pub leftWhile : Bool → State → ℕ
 leftWhile more st = if more then 1 + left st else 0
 
-pub chunks-end : (l : Logger) (bytes : List ℕ) (got : ℕ) (t : Taken) (more : Bool) → ValidState (l .state) → length bytes ≡ got → t ≡ takenFrom l (samplesOf bytes)
+pub chunk-falls : (l : Logger) (bytes : List ℕ) (got : ℕ) (t : FedAll) (more : Bool) → ValidState (l .state) → length bytes ≡ got → t ≡ fedAllFrom l (samplesOf bytes)
     → more ≡ (got ≡ᵇ 2048 && t .why ≡ᵇ 0) → leftWhile more (t .logger .state) < leftWhile true (l .state)
-chunks-end l bytes got t more valid long is more-is = rw more-is (go (got ≡ᵇ 2048) (t .why ≡ᵇ 0) refl refl)
+chunk-falls l bytes got t more valid long is more-is = rw more-is (go (got ≡ᵇ 2048) (t .why ≡ᵇ 0) refl refl)
   where
     go : (a b : Bool) → (got ≡ᵇ 2048) ≡ a → (t .why ≡ᵇ 0) ≡ b → leftWhile (a && b) (t .logger .state) < leftWhile true (l .state)
     go false b p q = omega arith
     go true false p q = omega arith
     go true true p q =
         let inside : InHalf (l .state) = (valid .settings-valid .samples-most, valid .gatherer-valid .count-lt) in
-        let all = left-taken (samplesOf bytes) (l .state) inside (sym (ap (λ (u : Taken). u .why) is) ∙ eqb-true (t .why) 0 q) in
-        omega (arith, eqb-true got 2048 p, length-samples bytes, ap (λ (u : Taken). left (u .logger .state)) is)
+        let all = left-taken (samplesOf bytes) (l .state) inside (sym (ap (λ (u : FedAll). u .why) is) ∙ eqb-true (t .why) 0 q) in
+        omega (arith, eqb-true got 2048 p, length-samples bytes, ap (λ (u : FedAll). left (u .logger .state)) is)

@@ -11,7 +11,7 @@ use Rattle.settings.specs.declared.Settings.{Settings}
 use Rattle.reading.specs.Values.{valueCount, history, values}
 use Rattle.reading.specs.Records.{due, events}
 use Rattle.reading.specs.Feed.{dueAfter, completed}
-use Rattle.reading_laws.specs.Recordings.{valueCount-grow, history-grow}
+use Rattle.reading_laws.specs.RecordingsLaws.{valueCount-grow, history-grow}
 
 module _ (s : Settings) where
   pub events-after : (rec : List ℤ) (v c : ℕ) → events s (history s rec (v + c)) ≡ events s (history s rec v) ++ dueAfter s rec v c

@@ -9,8 +9,8 @@ use lib.Seq.{take-append-le, drop-append-le}
 use lib.IntN.{ℤ, pos, negsuc, natAbs}
 use Rattle.settings.specs.declared.Settings.{Settings}
 use Rattle.reading.specs.Values.{Sample, Samples, square, squares, energy, rms, value, halves, valueCount, history}
-use Rattle.reading_laws.specs.Root.{root-is, root-most, root-le, root-only}
-use Rattle.reading_laws.specs.Division.{div-same, div-next, div-grow}
+use Rattle.reading_laws.specs.RootLaws.{root-is, root-most, root-le}
+use Rattle.reading_laws.specs.DivisionLaws.{div-same, div-next, div-grow}
 
 -- samples
 pub samples-append : (xs ys : List ℤ) → Samples xs → Samples ys → Samples (xs ++ ys)
@@ -113,12 +113,6 @@ rms-is m a b h =
 pub value-is : (s : Settings) (rec : List ℤ) (i : ℕ) → 0 < s .samples
     → Greatest (λ (r : ℕ). r * r * (2 * s .samples) ≤ 256 * (energy s rec i + energy s rec (i + 1))) (value s rec i)
 value-is s rec i h = rms-is (s .samples) (energy s rec i) (energy s rec (i + 1)) h
-
--- no other number meets it: here halved on both sides, as the code tests it
-pub rms-only : (m a b r : ℕ) → 0 < m → m * (r * r) ≤ 128 * (a + b) → 128 * (a + b) < m * ((r + 1) * (r + 1)) → r ≡ rms m a b
-rms-only m a b r h low high =
-    let p : 0 < 2 * m = omega arith in
-    root-only (record { low = le-div-iff-mul-le p .1 (omega arith); high = div-lt-iff-lt-mul p .1 (omega arith) })
 
 -- and never above 524,288
 pub rms-le : (m a b : ℕ) → 0 < m → a ≤ m * 2 ^ 30 → b ≤ m * 2 ^ 30 → rms m a b ≤ 524288

@@ -13,7 +13,7 @@ use Rattle.numbers.specs.Notation.{_≤ᵇ_}
 use Rattle.numbers.specs.NotationLaws.{and-true}
 use Rattle.reading.specs.Values.{valueCount}
 use Rattle.reading.specs.Feed.{lastValue, allowed, greatestTo, taken}
-use Rattle.reading_laws.specs.Completed.{completed-none}
+use Rattle.reading_laws.specs.CompletedLaws.{completed-none}
 
 -- the greatest number up to n that passes a test
 module _ (test : ℕ → Bool) where
