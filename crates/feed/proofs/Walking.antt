@@ -14,7 +14,6 @@ use Rattle.numbers.specs.Notation.{_<ᵇ_, if_then_else_}
 use Rattle.settings.specs.declared.Settings.{Settings}
 use Rattle.settings.specs.declared.Scaled.{Scaled}
 use Rattle.settings.specs.Settings.{scaledOf}
-use Rattle.reading.specs.declared.Told.{Told}
 use Rattle.reading.specs.Changes.{sum as sumOf}
 use Rattle.reading.specs.Engineer.{room}
 use Rattle.rms.specs.declared.Part.{Part}
@@ -60,8 +59,8 @@ no-why false true e = absurd (omega arith)
 no-why false false e = (refl, refl)
 
 -- what `end_walk` gives
-abbrev pub WalkEnds : Gatherer → Detector → List ℤ → Told → Walked → Type 0
-WalkEnds g d samples told last = (last ≡ walkedWith g d (partOf samples) told) × (partOf samples .squares ≤ length samples * 2 ^ 30)
+abbrev pub WalkEnds : Gatherer → Detector → List ℤ → ℕ → ℕ → ℕ → Walked → Type 0
+WalkEnds g d samples taken written why last = (last ≡ walkedWith g d (partOf samples) taken written why) × (partOf samples .squares ≤ length samples * 2 ^ 30)
 
 -- what `walk` gives
 abbrev pub WalkIs : State → List ℤ → List ℕ → Settings → List ℕ → Walked → List ℕ → Type 0
@@ -123,12 +122,9 @@ module _ {s : Settings} {w₀ : List ℕ} {block : List ℤ} {lent : List ℕ} {
   abbrev rest : List ℤ
   rest = drop at block
 
-  abbrev telling : ℕ → ℕ → Told
-  telling taken why = record { taken = taken; written = written; why = why }
-
   -- the end of the walk, with a part that leaves the half-cycle in progress
   walk-last : (last : Walked) (p : Part) (taken why : ℕ) (w₁ out₁ : List ℕ) → PartFits (s .samples) g p → g .count + p .count < s .samples →
-      last ≡ walkedWith g d p (telling taken why) → w₁ ≡ w → (k : ℕ) → taken ≡ at + k →
+      last ≡ walkedWith g d p taken written why → w₁ ≡ w → (k : ℕ) → taken ≡ at + k →
       fedBy machine st rest left ≡ record { after = partJoined st p; taken = k; events = []; why = why } → out₁ ≡ take behind out ++ drop behind out →
       WalkIs st₀ block lent s w₁ last out₁
   walk-last last p taken why w₁ out₁ fits below last-is window-is k taken-is fed bytes-are =
@@ -218,7 +214,7 @@ module _ {s : Settings} {w₀ : List ℕ} {block : List ℤ} {lent : List ℕ} {
               (share-is ∙ ap (cut (s .samples) (h .gatherer)) (rest-is (at + n) block)) (long ∙ inv .long) (wide ∙ inv .wide)
 
         -- it is not
-        pub walk-stops : 0 < h .why → (last : Walked) → WalkEnds g d (take (at + n - 1 - at) rest) (telling (at + n - 1) (h .why)) last →
+        pub walk-stops : 0 < h .why → (last : Walked) → WalkEnds g d (take (at + n - 1 - at) rest) (at + n - 1) written (h .why) last →
             WalkIs st₀ block lent s w₁ last back
         walk-stops some last ended =
             let stopped = half-refused (whyNot st p left) (halfOf s h w₁ part) st p (drop behind out) given some in
@@ -230,16 +226,16 @@ module _ {s : Settings} {w₀ : List ℕ} {block : List ℤ} {lent : List ℕ} {
             let long : length (take (n - 1) rest) ≡ n - 1 = part-long at (n - 1) block (omega (arith, inv .share-in)) in
             let below : g .count + less .count < s .samples = omega (arith, inv .within .fits) in
             let bound : less .squares ≤ less .count * 2 ^ 30 = omega (arith, ended .1, ap (λ (k : Part). k .squares) less-is, ap (λ (k : Part). k .count) less-is) in
-            walk-last last less (at + n - 1) (h .why) w₁ back (record { count-le = omega arith; squares-le = bound }) below (ended .0 ∙ ap (λ (k : Part). walkedWith g d k (telling (at + n - 1) (h .why))) less-is) window-is
+            walk-last last less (at + n - 1) (h .why) w₁ back (record { count-le = omega arith; squares-le = bound }) below (ended .0 ∙ ap (λ (k : Part). walkedWith g d k (at + n - 1) written (h .why)) less-is) window-is
             (n - 1) (omega arith) (feed-stops st rest left (inv .so-far .valid .gatherer-valid .count-lt) share (inv .share-is) completes (h .why) (stopped .0) some) (back-is ∙ ap (λ (l : List ℕ). take behind out ++ l) bytes-are)
 
   -- none ends
-  pub walk-ends : share .completes ≡ false → (last : Walked) → WalkEnds g d (take (length block - at) rest) (telling (length block) 0) last →
+  pub walk-ends : share .completes ≡ false → (last : Walked) → WalkEnds g d (take (length block - at) rest) (length block) written 0 last →
       WalkIs st₀ block lent s w last out
   walk-ends leaves last ended =
       let all-is : partOf (take (length block - at) rest) ≡ partOf rest = ap partOf (rest-is at block) in
       let below : g .count + length rest < s .samples = inv .within .below leaves in
       let bound : partOf rest .squares ≤ length rest * 2 ^ 30 = omega (arith, ended .1, ap (λ (k : Part). k .squares) all-is, ap (λ (k : Part). k .count) all-is) in
-      walk-last last (partOf rest) (length block) 0 w out (record { count-le = omega arith; squares-le = bound }) below (ended .0 ∙ ap (λ (k : Part). walkedWith g d k (telling (length block) 0)) all-is) refl
+      walk-last last (partOf rest) (length block) 0 w out (record { count-le = omega arith; squares-le = bound }) below (ended .0 ∙ ap (λ (k : Part). walkedWith g d k (length block) written 0) all-is) refl
       (length rest) (omega (arith, length-drop at block, inv .so-far .at-in))
       (feed-rest st rest left (inv .so-far .valid .gatherer-valid .count-lt) share (inv .share-is) leaves) (sym (take-append-drop behind out))

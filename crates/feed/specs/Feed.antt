@@ -6,7 +6,6 @@ use lib.ListN.{length}
 use Rattle.settings.specs.declared.Settings.{Settings}
 use Rattle.settings.specs.declared.Scaled.{Scaled}
 use Rattle.settings.specs.Settings.{scaledOf}
-use Rattle.reading.specs.declared.Told.{Told}
 use Rattle.reading.specs.Changes.{sum as sumOf}
 use Rattle.reading.specs.Feed.{Outcome}
 use Rattle.reading.specs.Records.{recordBytes}
@@ -61,5 +60,5 @@ halfOf s h w out = record { after = stateWith s (h .gatherer) (h .detector) w; s
 abbrev pub walkedOf : Settings → Walked → List ℕ → List ℕ → Outcome State
 walkedOf s r w out = record { after = stateWith s (r .gatherer) (r .detector) w; told = r .told; bytes = out }
 
-abbrev pub walkedWith : Gatherer → Detector → Part → Told → Walked
-walkedWith g d p told = record { gatherer = withPart g p; detector = d; told = told }
+abbrev pub walkedWith : Gatherer → Detector → Part → ℕ → ℕ → ℕ → Walked
+walkedWith g d p taken written why = record { gatherer = withPart g p; detector = d; told = record { taken = taken; written = written; why = why } }

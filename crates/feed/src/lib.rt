@@ -94,15 +94,27 @@ fn complete(
 }
 
 // The end of a walk, with the samples that leave the half-cycle in progress.
-fn end_walk(gatherer: Gatherer, detector: Detector, samples: &[i16], told: Told) -> Walked
+fn end_walk(
+    gatherer: Gatherer,
+    detector: Detector,
+    samples: &[i16],
+    taken: usize,
+    written: usize,
+    why: u32,
+) -> Walked
     requires { ⌜ (gatherer .count + length (now samples) ≤ 256) × (gatherer .sum ≤ gatherer .count * 2 ^ 30) ⌝ }
-    ensures { λ r. ⌜ (r ≡ walkedWith gatherer detector (partOf (now (samples .entry))) told) × (partOf (now (samples .entry)) .squares ≤ length (now (samples .entry)) * 2 ^ 30) ⌝ }
+    ensures { λ r. ⌜ (r ≡ walkedWith gatherer detector (partOf (now (samples .entry))) taken written why)
+        × (partOf (now (samples .entry)) .squares ≤ length (now (samples .entry)) * 2 ^ 30) ⌝ }
 {
     let part = rms::sum_squares(samples);
     Walked {
         gatherer: gatherer.with_part(part),
         detector,
-        told,
+        told: Told {
+            taken,
+            written,
+            why,
+        },
     }
 }
 
@@ -145,17 +157,7 @@ pub fn walk(
         );
         if 0 < half.why {
             let taken = end - 1;
-            let why = half.why;
-            return end_walk(
-                g,
-                d,
-                &block[at..taken],
-                Told {
-                    taken,
-                    written,
-                    why,
-                },
-            );
+            return end_walk(g, d, &block[at..taken], taken, written, half.why);
         }
         g = half.gatherer;
         d = half.detector;
@@ -164,15 +166,5 @@ pub fn walk(
         at = end;
         share = g.cut(half_length, &block[at..]);
     }
-    let taken = block.len();
-    end_walk(
-        g,
-        d,
-        &block[at..],
-        Told {
-            taken,
-            written,
-            why: 0,
-        },
-    )
+    end_walk(g, d, &block[at..], block.len(), written, 0)
 }

@@ -1,6 +1,7 @@
+pub mod Sentences
 pub mod RootLaws
 pub mod DivisionLaws
 pub mod RecordingsLaws
 pub mod CompletedLaws
 pub mod TakenLaws
-pub mod Sentences
+pub mod SentencesProof

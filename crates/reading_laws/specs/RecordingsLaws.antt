@@ -9,6 +9,7 @@ use lib.Seq.{take-append-le, drop-append-le}
 use lib.IntN.{ℤ, pos, negsuc, natAbs}
 use Rattle.settings.specs.declared.Settings.{Settings}
 use Rattle.reading.specs.Values.{Sample, Samples, square, squares, energy, rms, value, halves, valueCount, history}
+use Rattle.reading_laws.specs.Sentences.{Greatest}
 use Rattle.reading_laws.specs.RootLaws.{root-is, root-most, root-le}
 use Rattle.reading_laws.specs.DivisionLaws.{div-same, div-next, div-grow}
 
@@ -95,11 +96,6 @@ module _ (s : Settings) (rec xs : List ℤ) where
 
       pub valueCount-first : halves s rec ≡ 0 → valueCount s (rec ++ xs) ≡ 0
       valueCount-first p = omega (arith, halves-next)
-
--- r is the greatest number with P
-pub record Greatest (P : ℕ → Type 0) (r : ℕ) : Type 0 where
-  pub holds : P r
-  pub most : (k : ℕ) → P k → k ≤ r
 
 -- 01's sentence: the greatest r with r² × 2 × M ≤ 256 × (a + b)
 pub rms-is : (m a b : ℕ) → 0 < m → Greatest (λ (r : ℕ). r * r * (2 * m) ≤ 256 * (a + b)) (rms m a b)

@@ -1,4 +1,4 @@
--- The sentences of 01 that a reader expects of the readings, where a definition recurses in its own way.
+-- The sentences of 01 that a reader expects of the readings, where a definition recurses in its own way: the statement.
 use mathlib.Core.Path.{_≡_}
 use mathlib.Core.Bool.{true}
 use mathlib.Core.List.{List, _++_}
@@ -9,10 +9,11 @@ use Rattle.settings.specs.declared.Settings.{Settings}
 use Rattle.reading.specs.Values.{Samples, energy, root, value, valueCount, values}
 use Rattle.reading.specs.Records.{events}
 use Rattle.reading.specs.Feed.{lastValue, completed, allowed, taken}
-use Rattle.reading_laws.specs.RootLaws.{root-is, root-most}
-use Rattle.reading_laws.specs.RecordingsLaws.{Greatest, value-is, value-le, value-grow}
-use Rattle.reading_laws.specs.CompletedLaws.{events-completed}
-use Rattle.reading_laws.specs.TakenLaws.{taken-le, taken-allowed, taken-greatest}
+
+-- r is the greatest number with P
+pub record Greatest (P : ℕ → Type 0) (r : ℕ) : Type 0 where
+  pub holds : P r
+  pub most : (k : ℕ) → P k → k ≤ r
 
 pub record Sentences : Type 0 where
   -- the root of n is the greatest number whose square is at most n
@@ -32,14 +33,3 @@ pub record Sentences : Type 0 where
   -- what a feed writes are the events that its samples add to the recording's
   pub records-added : (s : Settings) → 0 < s .samples → (rec block : List ℤ) (n : ℕ)
       → events s (values s (rec ++ take n block)) ≡ events s (values s rec) ++ completed s rec block n
-
-pub sentences-hold : Sentences
-sentences-hold = record {
-  root-greatest = λ n. record { holds = root-is n .low; most = root-most n };
-  value-greatest = λ s h rec i. value-is s rec i h;
-  value-bounded = λ s h rec are i. value-le s rec are h i;
-  value-stays = λ s h rec xs i. value-grow s rec xs h i;
-  taken-fits = λ s h rec block room v. (taken-le s rec block room h, taken-allowed s rec block room h v);
-  taken-most = λ s h rec block room. taken-greatest s rec block room h;
-  records-added = λ s h. events-completed s h;
-}

@@ -21,7 +21,7 @@ returns c =
     let a = c .before .before .args in
     let part = c .before .sum-squares in
     let gathered = c .with-part .ensures ∙ ap (withPart (a .gatherer)) (part .ensures .0) in (
-      λ i. record { gatherer = gathered i; detector = a .detector; told = a .told },
+      λ i. record { gatherer = gathered i; detector = a .detector; told = record { taken = a .taken; written = a .written; why = a .why } },
       omega (arith, part .ensures .1, ap (λ (p : Part). p .squares) (part .ensures .0), ap (λ (p : Part). p .count) (part .ensures .0)),
     )
 

@@ -1,5 +1,5 @@
--- The sentences are proved in `specs/Sentences.antt`.
-use Rattle.reading_laws.specs.Sentences.{sentences-hold}
+-- The sentences are proved in `specs/SentencesProof.antt`.
+use Rattle.reading_laws.specs.SentencesProof.{sentences-hold}
 use Rattle.reading_laws.proofs.sentences.Statement.{statement}
 use Rattle.reading_laws.proofs.sentences.Tie as tie
 

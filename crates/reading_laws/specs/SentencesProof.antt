@@ -1,0 +1,17 @@
+-- The sentences, proved of the readings.
+use Rattle.reading_laws.specs.Sentences.{Sentences}
+use Rattle.reading_laws.specs.RootLaws.{root-is, root-most}
+use Rattle.reading_laws.specs.RecordingsLaws.{value-is, value-le, value-grow}
+use Rattle.reading_laws.specs.CompletedLaws.{events-completed}
+use Rattle.reading_laws.specs.TakenLaws.{taken-le, taken-allowed, taken-greatest}
+
+pub sentences-hold : Sentences
+sentences-hold = record {
+  root-greatest = λ n. record { holds = root-is n .low; most = root-most n };
+  value-greatest = λ s h rec i. value-is s rec i h;
+  value-bounded = λ s h rec are i. value-le s rec are h i;
+  value-stays = λ s h rec xs i. value-grow s rec xs h i;
+  taken-fits = λ s h rec block room v. (taken-le s rec block room h, taken-allowed s rec block room h v);
+  taken-most = λ s h rec block room. taken-greatest s rec block room h;
+  records-added = λ s h. events-completed s h;
+}
