@@ -152,7 +152,8 @@ module _ (s : Settings) (some : 0 < s .samples) {St : Type 0} (M : Machine St) (
 pub recording-fed : (s : Settings) → 0 < s .samples → (rec block : List ℤ) (room : ℕ) → Recording s rec → Samples block → Recording s (rec ++ take (taken s rec block room) block)
 recording-fed s some rec block room ok are =
     let n = taken s rec block room in
+    let fits = taken-allowed s rec block room some (ok .within) in
     record {
       samples = samples-append rec (take n block) (ok .samples) (samples-take n block are);
-      within = leb-true (valueCount s (rec ++ take n block)) lastValue (and-left (withinEnd s rec block n) (length (completed s rec block n) ≤ᵇ room) (taken-allowed s rec block room some (ok .within)));
+      within = leb-true (valueCount s (rec ++ take n block)) lastValue (and-left (withinEnd s rec block n) (length (completed s rec block n) ≤ᵇ room) fits);
     }
