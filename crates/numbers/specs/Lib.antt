@@ -1,2 +1,4 @@
 pub mod Notation
 pub mod NotationLaws
+pub mod Answers
+pub mod AnswersLaws
