@@ -1,10 +1,14 @@
 #!/usr/bin/env bash
-# Compares the proved library, through C, and the event program with the outside implementation: bash outside/compare.sh SECONDS [SEED]
-# The seed is fresh and printed if none is given. Fails at the first difference, and if some kind of record, why or refusal was never seen.
+# Compares what is proved with the outside implementation: bash outside/compare.sh CASES LISTS SEED
+# So many cases go through the library for C and the event program, and so many lists of calls through `call_lists`; they are the same whenever the numbers are.
+# Fails at the first difference, and if some kind of record, why, refusal, phase or event was never seen.
 set -euo pipefail
 cd "$(dirname "$0")/.."
+[ $# = 3 ] || { echo "bash outside/compare.sh CASES LISTS SEED" >&2; exit 2; }
 rt staticlib host
-rt check event_log
+rt check event_log call_lists
 export PROVED_LIB_DIR=$PWD/target/staticlib
 cargo build --release --offline --quiet --features proved --manifest-path outside/Cargo.toml
-"${CARGO_TARGET_DIR:-outside/target}/release/compare" "$@" --require-all --program target/bin/event_log
+programs=${CARGO_TARGET_DIR:-outside/target}/release
+"$programs/compare" "$1" "$3" --require-all --program target/bin/event_log
+"$programs/call_lists" "$2" "$3" --require-all --program target/bin/call_lists

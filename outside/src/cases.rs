@@ -91,16 +91,8 @@ impl Run<'_> {
         self.seen.call("look");
         let logger = Logger::from_image(image).map_err(|x| format!("logger refuses {x}"))?;
         demand(image_of(&logger) == image, || "restore and save give another image".into())?;
-        let x = Fields::of(image);
-        let looked = logger.look();
-        let used = (x.v as i64).min(x.s.n) as usize;
-        let sum: u64 = x.places.iter().map(|&r| r as u64).sum();
-        let same = looked.v == x.v as u64
-            && looked.r == if used > 0 { x.places[used - 1] as u64 } else { 0 }
-            && looked.a == if used as i64 == x.s.n { sum } else { 0 }
-            && looked.phase == x.phase as u64
-            && looked.stand == [0, 2, 4].map(|e| x.events[e] > 0);
-        demand(same, || format!("look gives {looked:?} for {x:?}"))
+        let (looked, expected) = (logger.look(), Fields::of(image).look());
+        demand(looked == expected, || format!("look gives {looked:?}, not {expected:?}"))
     }
 
     /// Advances with one thing, or several, that must be refused.

@@ -1,5 +1,6 @@
 //! Images built directly: accepted ones, with or without a recording, and ones that break a rule.
 
+use crate::engineer::Looked;
 use crate::rng::{one_of, Rng};
 use crate::rules::{eight, four, settings, settings_bytes, table, Settings, IMAGE, TOP};
 
@@ -66,6 +67,19 @@ impl Fields {
         }
         assert_eq!(b.len(), IMAGE);
         b
+    }
+
+    /// What look tells of them.
+    pub fn look(&self) -> Looked {
+        let used = (self.v as i64).min(self.s.n) as usize;
+        let sum: u64 = self.places.iter().map(|&r| r as u64).sum();
+        Looked {
+            v: self.v as u64,
+            r: if used > 0 { self.places[used - 1] as u64 } else { 0 },
+            a: if used as i64 == self.s.n { sum } else { 0 },
+            phase: self.phase as u64,
+            stand: [0, 2, 4].map(|e| self.events[e] > 0),
+        }
     }
 
     /// A copy with something changed.

@@ -25,6 +25,8 @@ pub mod program;
 pub mod ffi;
 
 // What the binaries share: random cases and how they are compared.
+pub mod arguments;
+pub mod call_lists;
 pub mod cases;
 pub mod guard;
 pub mod hosts;

@@ -34,7 +34,14 @@ impl Run<'_> {
         let mut list = List::default();
         let calls = rng.range(1, 30);
         for j in 0..calls {
-            let call = self.next_call(rng, &s, &mut source, &mut list, calls - j);
+            let images = list.saves.iter().map(|x| &x.0[..]);
+            let base = images.last().map_or(Fields::fresh(s).bytes(), |x| x.to_vec());
+            let call = next_call(rng, &s, &source, list.saves.len(), &base, calls - j);
+            let call = match call {
+                // Bytes that would be accepted have no place in the claim's lists.
+                Call::RestoreBytes { bytes } if rules::restore(&bytes) == 0 => Call::Look,
+                other => other,
+            };
             let at = |text: String| format!("{s:?}, call {j} ({}): {text}", describe(&call));
             let answer = engineer.call(&call);
             let image = image_of(&logger);
@@ -51,59 +58,6 @@ impl Run<'_> {
         demand(engineer.image() == image_of(&logger), || "the last images differ".into())?;
         self.seen.dropped += engineer.changes_dropped() as u64;
         Ok(())
-    }
-
-    fn next_call(
-        &mut self,
-        rng: &mut Rng,
-        s: &Settings,
-        source: &mut Vec<i16>,
-        list: &mut List,
-        left: i64,
-    ) -> Call {
-        let room = match rng.range(0, 9) {
-            0 => 0,
-            1 => rng.range(0, 100),
-            2 => one_of(&[19, 20, 39, 40, 59, 60, 61], rng),
-            3..=4 => 20 * rng.range(0, 3),
-            _ => 4000,
-        } as usize;
-        match rng.range(0, 99) {
-            0..=59 => {
-                let most = source.len() as i64;
-                let length = match rng.range(0, 9) {
-                    0 => rng.range(0, 2),
-                    1 => rng.range(0, s.m + 1),
-                    2 => one_of(&[s.m - 1, s.m, s.m + 1, 2 * s.m], rng),
-                    3 => s.m * rng.range(1, 30),
-                    4..=5 => most,
-                    _ => 2 * most / left + rng.range(0, s.m),
-                };
-                let block = source[..length.min(most) as usize].to_vec();
-                Call::Feed { block, room }
-            }
-            60..=69 => Call::Look,
-            70..=84 => {
-                let lengths = [0, 1, 619, 620, 620, 620, 621, 700];
-                Call::Save { length: one_of(&lengths, rng) }
-            }
-            85..=92 if !list.saves.is_empty() => {
-                Call::RestoreSave { name: rng.range(0, list.saves.len() as i64 - 1) as usize }
-            }
-            _ => {
-                let base = match list.saves.last() {
-                    Some((image, _)) => image.clone(),
-                    None => Fields::fresh(*s).bytes(),
-                };
-                let bytes = damaged(rng, &base);
-                // Bytes that would be accepted have no place in a list.
-                if rules::restore(&bytes) == 0 {
-                    Call::Look
-                } else {
-                    Call::RestoreBytes { bytes }
-                }
-            }
-        }
     }
 
     /// One call on the logger, compared with the engineer's answer.
@@ -185,6 +139,47 @@ impl Run<'_> {
             && left.records[..records.len()] == records[..]
             && [left.reply(0), left.reply(1), left.reply(2)] == [fed.taken, fed.written, fed.why];
         demand(same, || "the hosts agree, but not with the engineer".into())
+    }
+}
+
+/// A call under these settings: `saves` can be named, `base` is an image to damage, and `left` calls are
+/// to share what is left of the samples.
+pub fn next_call(
+    rng: &mut Rng,
+    s: &Settings,
+    source: &[i16],
+    saves: usize,
+    base: &[u8],
+    left: i64,
+) -> Call {
+    let room = match rng.range(0, 9) {
+        0 => 0,
+        1 => rng.range(0, 100),
+        2 => one_of(&[19, 20, 39, 40, 59, 60, 61], rng),
+        3..=4 => 20 * rng.range(0, 3),
+        _ => 4000,
+    } as usize;
+    match rng.range(0, 99) {
+        0..=59 => {
+            let most = source.len() as i64;
+            let length = match rng.range(0, 9) {
+                0 => rng.range(0, 2),
+                1 => rng.range(0, s.m + 1),
+                2 => one_of(&[s.m - 1, s.m, s.m + 1, 2 * s.m], rng),
+                3 => s.m * rng.range(1, 30),
+                4..=5 => most,
+                _ => 2 * most / left + rng.range(0, s.m),
+            };
+            let block = source[..length.min(most) as usize].to_vec();
+            Call::Feed { block, room }
+        }
+        60..=69 => Call::Look,
+        70..=84 => {
+            let lengths = [0, 1, 619, 620, 620, 620, 621, 700];
+            Call::Save { length: one_of(&lengths, rng) }
+        }
+        85..=92 if saves > 0 => Call::RestoreSave { name: rng.range(0, saves as i64 - 1) as usize },
+        _ => Call::RestoreBytes { bytes: damaged(rng, base) },
     }
 }
 

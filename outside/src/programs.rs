@@ -43,7 +43,7 @@ impl Run<'_> {
 }
 
 /// Lengths of the pieces that an input is given in.
-fn pieces(rng: &mut Rng, length: usize) -> Vec<usize> {
+pub fn pieces(rng: &mut Rng, length: usize) -> Vec<usize> {
     let most = one_of(&[length as i64, 1, 3, 37, 1000, 5000, 100_000], rng).max(1);
     let mut left = length;
     let mut list = Vec::new();
@@ -57,7 +57,7 @@ fn pieces(rng: &mut Rng, length: usize) -> Vec<usize> {
 }
 
 /// What the program prints on this input, given in these pieces.
-fn printed(path: &str, input: &[u8], pieces: &[usize]) -> Outcome<Vec<u8>> {
+pub fn printed(path: &str, input: &[u8], pieces: &[usize]) -> Outcome<Vec<u8>> {
     let cannot = |x: std::io::Error| format!("{path}: {x}");
     let mut child =
         Command::new(path).stdin(Stdio::piped()).stdout(Stdio::piped()).spawn().map_err(cannot)?;

@@ -62,3 +62,15 @@ impl Seen {
         list
     }
 }
+
+/// Prints every count, and those that are 0 again; tells whether there are none.
+pub fn tell(counts: &[(String, u64)]) -> bool {
+    for (name, count) in counts {
+        println!("{name:<30}{count:>12}");
+    }
+    let missing: Vec<&str> = counts.iter().filter(|x| x.1 == 0).map(|x| x.0.as_str()).collect();
+    if !missing.is_empty() {
+        println!("never seen: {}", missing.join(", "));
+    }
+    missing.is_empty()
+}

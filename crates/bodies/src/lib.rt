@@ -8,15 +8,20 @@ use settings::Settings;
 use threshold::Standing;
 ghost use mathlib.Core.Path.{_≡_};
 ghost use mathlib.Core.Bool.{_&&_};
-ghost use mathlib.Core.List.{[], _∷_};
-ghost use Prim.Native.Nat.{_*_, _≤_, min};
-ghost use lib.ListN.{length, drop};
-ghost use Rattle.octets.specs.Bytes.{words};
-ghost use Rattle.numbers.specs.Notation.{_≤ᵇ_, _≡ᵇ_, all};
-ghost use Rattle.reading.specs.Image.{table, flag};
-ghost use Rattle.bodies.specs.Bodies.{gathererBody, valuesBody, phaseNumbers, detectorNumbers, phaseOfNumber};
-ghost use Rattle.bodies.specs.Bodies.{gathererTest, changeTest, standingTest, phaseTest, earlyTest};
-ghost use Rattle.bodies.specs.Bodies.{tableAnswer, gathererAnswer, windowAnswer, detectorAnswer};
+ghost use mathlib.Core.List.{_∷_};
+ghost use Prim.Native.Nat.{_+_, _≤_, min};
+ghost use lib.ListN.{length, getD};
+ghost use Rattle.octets.specs.Bytes.{row};
+ghost use Rattle.numbers.specs.Notation.{_≤ᵇ_, _≡ᵇ_, flag, all};
+ghost use Rattle.numbers.specs.Rules.{passes};
+ghost use Rattle.numbers.specs.Rules.Rule.{_<ʳ_, _≡ʳ_, zeros, _implies_};
+ghost use Rattle.reading.specs.Layout.{tableLength, gathererWidths, gathererLength, valuesWidths, valuesLength, eventsWidths, eventsLength};
+ghost use Rattle.reading.specs.Image.{table};
+ghost use Rattle.reading.specs.Restore.{gathererRule, wholeRule, placesRule, valuesRule, changeRule, phaseRule, standingRule, eventsRule};
+ghost use Rattle.rms.specs.Gather.{gathererRow};
+ghost use Rattle.rvc.specs.Phase.{phaseRow};
+ghost use Rattle.bodies.specs.Bodies.{detectorRow, phaseOfNumber, verdictNumber, tableRefusal, gathererTold, gathererAnswer, WindowTold};
+ghost use Rattle.bodies.specs.Bodies.{detectorTold, detectorAnswer};
 
 // Whether a section is good.
 pub enum Verdict {
@@ -29,9 +34,10 @@ pub enum GathererRead {
     Refused,
 }
 
-// An enum holds no array: the answer stands beside it.
+// An enum holds no array: the answer stands beside what was read.
 pub struct WindowRead {
     pub verdict: Verdict,
+    pub count: u64,
     pub window: [u32; 120],
 }
 
@@ -40,44 +46,70 @@ pub enum DetectorRead {
     Refused,
 }
 
+// Body 2: count, sum, last sum, mark.
+const GATHERER_WIDTHS: [u8; 4] = [4, 8, 8, 4];
+
+const GATHERER_LENGTH: usize = 24;
+
+// Body 3: V, and 120 places.
+const COUNT_LENGTH: usize = 4;
+
+const VALUES_LENGTH: usize = COUNT_LENGTH + 4 * 120;
+
+// Body 4: the phase and a change's four numbers; start and magnitude of dip, swell and interruption.
+const EVENTS_WIDTHS: [u8; 11] = [4; 11];
+
+const EVENTS_LENGTH: usize = 44;
+
+// Where the sections stand, one behind the other.
+pub const SETTINGS_AT: usize = 32;
+
+pub const GATHERER_AT: usize = SETTINGS_AT + Settings::LENGTH;
+
+pub const VALUES_AT: usize = GATHERER_AT + GATHERER_LENGTH;
+
+pub const EVENTS_AT: usize = VALUES_AT + VALUES_LENGTH;
+
+pub const IMAGE_LENGTH: usize = EVENTS_AT + EVENTS_LENGTH;
+
 // Code, offset and length of each body.
-const TABLE: [u8; 32] = [
+const TABLE: [u8; SETTINGS_AT] = [
     1,
     0,
     0,
     0,
-    32,
-    0,
-    36,
-    0,
+    (SETTINGS_AT % 256) as u8,
+    (SETTINGS_AT / 256) as u8,
+    (Settings::LENGTH % 256) as u8,
+    (Settings::LENGTH / 256) as u8,
     2,
     0,
     0,
     0,
-    68,
-    0,
-    24,
-    0,
+    (GATHERER_AT % 256) as u8,
+    (GATHERER_AT / 256) as u8,
+    (GATHERER_LENGTH % 256) as u8,
+    (GATHERER_LENGTH / 256) as u8,
     3,
     0,
     0,
     0,
-    92,
-    0,
-    228,
-    1,
+    (VALUES_AT % 256) as u8,
+    (VALUES_AT / 256) as u8,
+    (VALUES_LENGTH % 256) as u8,
+    (VALUES_LENGTH / 256) as u8,
     4,
     0,
     0,
     0,
-    64,
-    2,
-    44,
-    0,
+    (EVENTS_AT % 256) as u8,
+    (EVENTS_AT / 256) as u8,
+    (EVENTS_LENGTH % 256) as u8,
+    (EVENTS_LENGTH / 256) as u8,
 ];
 
 pub fn put_table(part: &mut [u8])
-    requires { ⌜ length (now part) ≡ 32 ⌝ }
+    requires { ⌜ length (now part) ≡ tableLength ⌝ }
     ensures { λ _. ⌜ now (part .exit) ≡ table ⌝ }
 {
     let entries = TABLE;
@@ -85,7 +117,7 @@ pub fn put_table(part: &mut [u8])
 }
 
 pub fn read_table(part: &[u8]) -> Verdict
-    ensures { λ r. ⌜ r ≡ tableAnswer (now (part .entry)) ⌝ }
+    ensures { λ r. ⌜ verdictNumber 9 r ≡ tableRefusal (now (part .entry)) ⌝ }
 {
     let entries = TABLE;
     if check::same(part, &entries) {
@@ -95,7 +127,7 @@ pub fn read_table(part: &[u8]) -> Verdict
     }
 }
 
-fn mark_of(whole: bool) -> u32
+fn mark_of(whole: bool) -> u64
     ensures { λ r. ⌜ r ≡ flag whole ⌝ }
 {
     if whole { 1 } else { 0 }
@@ -103,25 +135,34 @@ fn mark_of(whole: bool) -> u32
 
 // Body 2.
 pub fn put_gatherer(part: &mut [u8], gatherer: Gatherer)
-    requires { ⌜ length (now part) ≡ 24 ⌝ }
-    ensures { λ _. ⌜ now (part .exit) ≡ gathererBody gatherer ⌝ }
+    requires { ⌜ length (now part) ≡ gathererLength ⌝ }
+    ensures { λ _. ⌜ now (part .exit) ≡ row gathererWidths (gathererRow gatherer) ⌝ }
 {
-    octets::put_u32(&mut part[0..4], gatherer.count);
-    octets::put_u64(&mut part[4..12], gatherer.sum);
-    octets::put_u64(&mut part[12..20], gatherer.last);
-    octets::put_u32(&mut part[20..24], mark_of(gatherer.whole));
+    let widths = GATHERER_WIDTHS;
+    let numbers = [
+        gatherer.count as u64,
+        gatherer.sum,
+        gatherer.last,
+        mark_of(gatherer.whole),
+    ];
+    octets::put_row(part, &widths, &numbers);
 }
 
-fn gatherer_good(samples: u32, count: u32, sum: u64, last: u64, mark: u32, values: u64) -> bool
-    ensures { λ r. ⌜ r ≡ gathererTest samples values count sum last mark ⌝ }
+fn gatherer_good(samples: u32, numbers: &[u64]) -> bool
+    requires { ⌜ length (now numbers) ≡ 4 ⌝ }
+    ensures { λ r. ⌜ r ≡ passes (gathererRule samples (now (numbers .entry))) ⌝ }
 {
-    if samples <= count {
+    let most = samples as u64;
+    let count = numbers[0];
+    let last = numbers[2];
+    let mark = numbers[3];
+    if most <= count {
         return false;
     }
-    if (count as u64) * 1_073_741_824 < sum {
+    if count * 1_073_741_824 < numbers[1] {
         return false;
     }
-    if (samples as u64) * 1_073_741_824 < last {
+    if most * 1_073_741_824 < last {
         return false;
     }
     if 1 < mark {
@@ -130,27 +171,22 @@ fn gatherer_good(samples: u32, count: u32, sum: u64, last: u64, mark: u32, value
     if mark != 0 {
         return true;
     }
-    if last != 0 {
-        return false;
-    }
-    values == 0
+    last == 0
 }
 
-// `values` is V, which is 0 where there is no whole half-cycle.
-pub fn read_gatherer(part: &[u8], settings: Settings, values: u64) -> GathererRead
-    requires { ⌜ length (now part) ≡ 24 ⌝ }
-    ensures { λ r. ⌜ r ≡ gathererAnswer settings values (now (part .entry)) ⌝ }
+pub fn read_gatherer(part: &[u8], settings: Settings) -> GathererRead
+    requires { ⌜ length (now part) ≡ gathererLength ⌝ }
+    ensures { λ r. ⌜ gathererTold r ≡ gathererAnswer settings (now (part .entry)) ⌝ }
 {
-    let count = octets::get_u32(part, 0);
-    let sum = octets::get_u64(part, 4);
-    let last = octets::get_u64(part, 12);
-    let mark = octets::get_u32(part, 20);
-    if gatherer_good(settings.samples, count, sum, last, mark, values) {
+    let widths = GATHERER_WIDTHS;
+    let mut numbers = [0u64; 4];
+    octets::get_row(part, &widths, &mut numbers);
+    if gatherer_good(settings.samples, &numbers) {
         GathererRead::Read(Gatherer {
-            count,
-            sum,
-            last,
-            whole: mark == 1,
+            count: numbers[0] as u32,
+            sum: numbers[1],
+            last: numbers[2],
+            whole: numbers[3] == 1,
         })
     } else {
         GathererRead::Refused
@@ -159,11 +195,11 @@ pub fn read_gatherer(part: &[u8], settings: Settings, values: u64) -> GathererRe
 
 // Body 3.
 pub fn put_values(part: &mut [u8], count: u64, window: &[u32])
-    requires { ⌜ (length (now part) ≡ 484) × (length (now window) ≡ 120) ⌝ }
-    ensures { λ _. ⌜ now (part .exit) ≡ valuesBody count (now (window .entry)) ⌝ }
+    requires { ⌜ (length (now part) ≡ valuesLength) × (length (now window) ≡ 120) ⌝ }
+    ensures { λ _. ⌜ now (part .exit) ≡ row valuesWidths (count ∷ now (window .entry)) ⌝ }
 {
-    octets::put_number(&mut part[0..4], count);
-    octets::put_words(&mut part[4..484], window);
+    octets::put_number(&mut part[0..COUNT_LENGTH], count);
+    octets::put_words(&mut part[COUNT_LENGTH..VALUES_LENGTH], window);
 }
 
 fn all_up_to(places: &[u32], most: u32) -> bool
@@ -184,9 +220,9 @@ fn used(count: u64, window_length: u64) -> usize
     }
 }
 
-fn window_good(window: &[u32], count: u64, window_length: u64) -> bool
+fn places_good(window: &[u32], count: u64, window_length: u64) -> bool
     requires { ⌜ («window_length» ≤ 120) × (length (now window) ≡ 120) ⌝ }
-    ensures { λ r. ⌜ r ≡ (all (_≤ᵇ 524288) (now (window .entry)) && all (_≡ᵇ 0) (drop (min count «window_length») (now (window .entry)))) ⌝ }
+    ensures { λ r. ⌜ r ≡ passes (placesRule «window_length» count (now (window .entry))) ⌝ }
 {
     if !all_up_to(window, 524_288) {
         return false;
@@ -195,21 +231,44 @@ fn window_good(window: &[u32], count: u64, window_length: u64) -> bool
     all_up_to(&window[first_unused..], 0)
 }
 
-pub fn read_window(part: &[u8], settings: Settings) -> WindowRead
-    requires { ⌜ length (now part) ≡ 484 ⌝ }
-    ensures { λ r. ⌜ r ≡ windowAnswer settings (now (part .entry)) ⌝ }
+// Without a whole half-cycle there is no value.
+fn whole_good(whole: bool, count: u64) -> bool
+    ensures { λ r. ⌜ r ≡ passes (wholeRule (flag whole) count) ⌝ }
 {
-    let count = octets::get_u32(part, 0) as u64;
+    if whole {
+        return true;
+    }
+    count == 0
+}
+
+fn values_good(window: &[u32], count: u64, window_length: u64, whole: bool) -> bool
+    requires { ⌜ («window_length» ≤ 120) × (length (now window) ≡ 120) ⌝ }
+    ensures { λ r. ⌜ r ≡ passes (valuesRule «window_length» (flag whole) (count ∷ now (window .entry))) ⌝ }
+{
+    if !whole_good(whole, count) {
+        return false;
+    }
+    places_good(window, count, window_length)
+}
+
+// `whole` is the gatherer's, of the body before.
+pub fn read_window(part: &[u8], settings: Settings, whole: bool) -> WindowRead
+    requires { ⌜ length (now part) ≡ valuesLength ⌝ }
+    ensures { λ r. ⌜ WindowTold settings whole (now (part .entry)) r ⌝ }
+{
+    let count = octets::number(&part[0..COUNT_LENGTH]);
     let mut window = [0u32; 120];
-    octets::get_words(&part[4..484], &mut window);
-    if window_good(&window, count, settings.window_length()) {
+    octets::get_words(&part[COUNT_LENGTH..VALUES_LENGTH], &mut window);
+    if values_good(&window, count, settings.window_length(), whole) {
         WindowRead {
             verdict: Verdict::Good,
+            count,
             window,
         }
     } else {
         WindowRead {
             verdict: Verdict::Bad,
+            count,
             window,
         }
     }
@@ -217,7 +276,7 @@ pub fn read_window(part: &[u8], settings: Settings) -> WindowRead
 
 // Body 4.
 fn numbers_of(phase: Phase) -> [u64; 5]
-    ensures { λ r. ⌜ r ≡ phaseNumbers phase ⌝ }
+    ensures { λ r. ⌜ r ≡ phaseRow phase ⌝ }
 {
     match phase {
         Phase::Filling => [0, 0, 0, 0, 0],
@@ -227,29 +286,16 @@ fn numbers_of(phase: Phase) -> [u64; 5]
     }
 }
 
-// Writes numbers that are 8 bytes in memory, 4 bytes each.
-fn put_counts(part: &mut [u8], numbers: &[u64])
-    requires { ⌜ length (now part) ≡ 4 * length (now numbers) ⌝ }
-    ensures { λ _. ⌜ now (part .exit) ≡ words (now (numbers .entry)) ⌝ }
-{
-    let mut k = 0;
-    while k < numbers.len() {
-        let start = 4 * k;
-        let end = start + 4;
-        octets::put_number(&mut part[start..end], numbers[k]);
-        k += 1;
-    }
-}
-
 pub fn put_detector(part: &mut [u8], detector: Detector)
-    requires { ⌜ length (now part) ≡ 44 ⌝ }
-    ensures { λ _. ⌜ now (part .exit) ≡ words (detectorNumbers detector) ⌝ }
+    requires { ⌜ length (now part) ≡ eventsLength ⌝ }
+    ensures { λ _. ⌜ now (part .exit) ≡ row eventsWidths (detectorRow detector) ⌝ }
 {
     let phase = detector.phase;
     let change = numbers_of(phase);
     let dip = detector.dip;
     let swell = detector.swell;
     let interruption = detector.interruption;
+    let widths = EVENTS_WIDTHS;
     let numbers = [
         change[0],
         change[1],
@@ -263,10 +309,10 @@ pub fn put_detector(part: &mut [u8], detector: Detector)
         interruption.start,
         interruption.magnitude,
     ];
-    put_counts(part, &numbers);
+    octets::put_row(part, &widths, &numbers);
 }
 
-// The phase of a number, with what a change carries.
+// The phase of its number, with what a change carries.
 fn phase_of(number: u64, change: Change) -> Phase
     ensures { λ r. ⌜ r ≡ phaseOfNumber number change ⌝ }
 {
@@ -279,131 +325,143 @@ fn phase_of(number: u64, change: Change) -> Phase
 }
 
 // Whether the greatest difference is 0 where V < k + N. The start is at most `values`, so that no sum is needed, which could wrap.
-fn early_good(change: Change, window_length: u64, values: u64) -> bool
-    requires { ⌜ change .start ≤ values ⌝ }
-    ensures { λ r. ⌜ r ≡ earlyTest «window_length» values change ⌝ }
+fn early_good(start: u64, difference: u64, window_length: u64, values: u64) -> bool
+    requires { ⌜ start ≤ values ⌝ }
+    ensures { λ r. ⌜ r ≡ passes (values <ʳ start + «window_length» implies difference ≡ʳ 0) ⌝ }
 {
-    if window_length <= values - change.start {
+    if window_length <= values - start {
         return true;
     }
-    change.difference == 0
+    difference == 0
 }
 
-fn change_good(change: Change, window_length: u64, values: u64) -> bool
-    requires { ⌜ «window_length» ≤ 120 ⌝ }
-    ensures { λ r. ⌜ r ≡ changeTest «window_length» values change ⌝ }
+fn change_good(numbers: &[u64], window_length: u64, values: u64) -> bool
+    requires { ⌜ (length (now numbers) ≡ 4) × («window_length» ≤ 120) ⌝ }
+    ensures { λ r. ⌜ r ≡ passes (changeRule «window_length» values (now (numbers .entry))) ⌝ }
 {
-    if change.start <= window_length {
+    let start = numbers[0];
+    let difference = numbers[2];
+    let stand = numbers[3];
+    if start <= window_length {
         return false;
     }
-    if values < change.start {
+    if values < start {
         return false;
     }
-    if window_length * 524_288 < change.sum {
+    if window_length * 524_288 < numbers[1] {
         return false;
     }
-    if window_length * 524_288 < change.difference {
+    if window_length * 524_288 < difference {
         return false;
     }
-    if !early_good(change, window_length, values) {
+    if !early_good(start, difference, window_length, values) {
         return false;
     }
-    if change.stand == 0 {
+    if stand == 0 {
         return true;
     }
-    change.start <= change.stand && change.stand <= values
+    start <= stand && stand <= values
 }
 
-fn change_zero(change: Change) -> bool
-    ensures { λ r. ⌜ r ≡ all (_≡ᵇ 0) (change .start ∷ change .sum ∷ change .difference ∷ change .stand ∷ []) ⌝ }
+fn change_zero(numbers: &[u64]) -> bool
+    requires { ⌜ length (now numbers) ≡ 4 ⌝ }
+    ensures { λ r. ⌜ r ≡ passes (zeros (now (numbers .entry))) ⌝ }
 {
-    if change.start != 0 {
+    if numbers[0] != 0 {
         return false;
     }
-    if change.sum != 0 {
+    if numbers[1] != 0 {
         return false;
     }
-    if change.difference != 0 {
+    if numbers[2] != 0 {
         return false;
     }
-    change.stand == 0
+    numbers[3] == 0
 }
 
-fn phase_good(number: u64, change: Change, window_length: u64, values: u64) -> bool
-    requires { ⌜ «window_length» ≤ 120 ⌝ }
-    ensures { λ r. ⌜ r ≡ phaseTest «window_length» values number change ⌝ }
+fn phase_good(numbers: &[u64], window_length: u64, values: u64) -> bool
+    requires { ⌜ (length (now numbers) ≡ 11) × («window_length» ≤ 120) ⌝ }
+    ensures { λ r. ⌜ r ≡ passes (phaseRule «window_length» values (now (numbers .entry))) ⌝ }
 {
-    if 3 < number {
+    let phase = numbers[0];
+    if 3 < phase {
         return false;
     }
-    if number == 0 {
+    if phase == 0 {
         if window_length <= values {
             return false;
         }
-        return change_zero(change);
+        return change_zero(&numbers[1..5]);
     }
     if values < window_length {
         return false;
     }
-    if number == 3 {
-        return change_good(change, window_length, values);
+    if phase == 3 {
+        return change_good(&numbers[1..5], window_length, values);
     }
-    change_zero(change)
+    change_zero(&numbers[1..5])
 }
 
-fn standing_good(standing: Standing, values: u64) -> bool
-    ensures { λ r. ⌜ r ≡ standingTest values standing ⌝ }
+fn standing_good(start: u64, magnitude: u64, values: u64) -> bool
+    ensures { λ r. ⌜ r ≡ passes (standingRule values start magnitude) ⌝ }
 {
-    if values < standing.start {
+    if values < start {
         return false;
     }
-    if 524_288 < standing.magnitude {
+    if 524_288 < magnitude {
         return false;
     }
-    if standing.start != 0 {
+    if start != 0 {
         return true;
     }
-    standing.magnitude == 0
+    magnitude == 0
+}
+
+fn events_good(numbers: &[u64], window_length: u64, values: u64) -> bool
+    requires { ⌜ (length (now numbers) ≡ 11) × («window_length» ≤ 120) ⌝ }
+    ensures { λ r. ⌜ r ≡ passes (eventsRule «window_length» values (now (numbers .entry))) ⌝ }
+{
+    if !phase_good(numbers, window_length, values) {
+        return false;
+    }
+    if !standing_good(numbers[5], numbers[6], values) {
+        return false;
+    }
+    if !standing_good(numbers[7], numbers[8], values) {
+        return false;
+    }
+    standing_good(numbers[9], numbers[10], values)
 }
 
 pub fn read_detector(part: &[u8], settings: Settings, values: u64) -> DetectorRead
-    requires { ⌜ length (now part) ≡ 44 ⌝ }
-    ensures { λ r. ⌜ r ≡ detectorAnswer settings values (now (part .entry)) ⌝ }
+    requires { ⌜ length (now part) ≡ eventsLength ⌝ }
+    ensures { λ r. ⌜ detectorTold r ≡ detectorAnswer settings values (now (part .entry)) ⌝ }
 {
-    let mut numbers = [0u32; 11];
-    octets::get_words(part, &mut numbers);
-    let number = numbers[0] as u64;
+    let widths = EVENTS_WIDTHS;
+    let mut numbers = [0u64; 11];
+    octets::get_row(part, &widths, &mut numbers);
+    if !events_good(&numbers, settings.window_length(), values) {
+        return DetectorRead::Refused;
+    }
     let change = Change {
-        start: numbers[1] as u64,
-        sum: numbers[2] as u64,
-        difference: numbers[3] as u64,
-        stand: numbers[4] as u64,
+        start: numbers[1],
+        sum: numbers[2],
+        difference: numbers[3],
+        stand: numbers[4],
     };
+    let phase = phase_of(numbers[0], change);
     let dip = Standing {
-        start: numbers[5] as u64,
-        magnitude: numbers[6] as u64,
+        start: numbers[5],
+        magnitude: numbers[6],
     };
     let swell = Standing {
-        start: numbers[7] as u64,
-        magnitude: numbers[8] as u64,
+        start: numbers[7],
+        magnitude: numbers[8],
     };
     let interruption = Standing {
-        start: numbers[9] as u64,
-        magnitude: numbers[10] as u64,
+        start: numbers[9],
+        magnitude: numbers[10],
     };
-    if !phase_good(number, change, settings.window_length(), values) {
-        return DetectorRead::Refused;
-    }
-    if !standing_good(dip, values) {
-        return DetectorRead::Refused;
-    }
-    if !standing_good(swell, values) {
-        return DetectorRead::Refused;
-    }
-    if !standing_good(interruption, values) {
-        return DetectorRead::Refused;
-    }
-    let phase = phase_of(number, change);
     DetectorRead::Read(Detector {
         count: values,
         dip,

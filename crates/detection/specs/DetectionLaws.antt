@@ -21,6 +21,7 @@ use Rattle.rvc.specs.declared.Joining.{Joining}
 use Rattle.rvc.specs.declared.Moved.{Moved}
 use Rattle.rvc.specs.Phase.{joiningOf, movedBy, movedOn, movedAfter, Joins}
 use Rattle.rvc.specs.PhaseLaws.{joins, steady-is}
+use Rattle.rvc.specs.PhaseRules.{valid-allowed}
 use Rattle.detection.specs.declared.Detector.{Detector}
 use Rattle.detection.specs.declared.Tried.{Tried}
 use Rattle.detection.specs.Detection.{stepOf, standsAt, detectorAfter, dueBy, triedBy, TryReady}
@@ -74,7 +75,7 @@ module _ {s : Settings} {t : Scaled} {d : Detector} {w : List ℕ} {a r : ℕ} (
           e
           ∙ ((λ j. movedOn (ready .scaled-is j) (n-is j) (staying (n-is j) v w) (joining-is j) (d .phase))
           ∙ ap (λ (b : Bool). movedBy (windowLength s) (joiningOf (windowLength s) v w r stands) b (d .phase))
-          (steady-is s v w r stands (ready .window-valid) (d .phase) (ready .detector-valid .phase-valid)))
+          (steady-is s v w r stands (ready .window-valid) (d .phase) (valid-allowed (windowLength s) v (d .phase) (ready .detector-valid .phase-valid))))
 
       pub tried-is : {dip swell interruption : Standing} {m : Moved} {e₁ e₂ e₃ : Ended} →
           dip ≡ stepped Dip i r (beginsAt Dip (t .dip) r) (endsAt Dip (t .dip) r) (d .dip) →

@@ -11,8 +11,10 @@ use lib.IntN.{ℤ}
 use borrow.Author.Tests.{ltb-false, eqb-true}
 use Rattle.numbers.specs.Notation.{_<ᵇ_, _≡ᵇ_, if_then_else_}
 use Rattle.reading.specs.declared.Told.{Told}
-use Rattle.reading.specs.Feed.{lastValue, Outcome}
+use Rattle.reading.specs.Feed.{lastValue}
+use Rattle.reading.specs.Calls.{Outcome}
 use Rattle.reading.specs.Engineer.{room}
+use Rattle.reading.specs.Layout.{recordLength}
 use Rattle.samples.specs.Samples.{samplesOf}
 use Rattle.samples.specs.SamplesLaws.{length-samples}
 use Rattle.rms.specs.declared.Part.{Part}
@@ -74,7 +76,7 @@ module _ (xs : List ℤ) (at : ℕ) (lent : List ℕ) (st : State) {end : State}
   within : ToldWithin (drop at xs) lent told
   within = subst⁻¹ (ToldWithin (drop at xs) lent) (ap (λ (o : Outcome State). o .told) fed-is) (fedWith-within st (drop at xs) lent)
 
-  pub turn-fits : 20 * told .written ≤ length lent
+  pub turn-fits : recordLength * told .written ≤ length lent
   turn-fits = within .fits
 
   pub turn-inside : at ≤ length xs → at + told .taken ≤ length xs
@@ -150,6 +152,6 @@ chunk-falls l bytes got t more valid long is more-is = rw more-is (go (got ≡�
     go false b p q = omega arith
     go true false p q = omega arith
     go true true p q =
-        let inside : InHalf (l .state) = (valid .settings-valid .samples-most, valid .gatherer-valid .count-lt) in
+        let inside : InHalf (l .state) = (valid .settings-valid .samples-most, valid .gatherer-valid .0) in
         let all = left-taken (samplesOf bytes) (l .state) inside (sym (ap (λ (u : FedAll). u .why) is) ∙ eqb-true (t .why) 0 q) in
         omega (arith, eqb-true got 2048 p, length-samples bytes, ap (λ (u : FedAll). left (u .logger .state)) is)

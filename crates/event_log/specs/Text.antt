@@ -5,6 +5,7 @@ use Prim.Native.Nat.{ℕ, zero, suc, _+_, _*_, _/_, _%_}
 use lib.ListN.{length, take, drop}
 use Rattle.numbers.specs.Notation.{_<ᵇ_, _≡ᵇ_, if_then_else_}
 use Rattle.reading.specs.declared.Event.{Event}
+use Rattle.reading.specs.Layout.{recordLength}
 use Rattle.records.specs.Due.{eventOf}
 
 -- a number's digits, at most k of them: those of its tenth, then its last
@@ -39,7 +40,7 @@ lineOf e = kindName (e .kind) ++ (column (e .start) ++ (column (e .duration) ++ 
 -- the lines of the first n records of a buffer
 abbrev pub linesOf : ℕ → List ℕ → List ℕ
 linesOf zero records = []
-linesOf (suc n) records = linesOf n records ++ lineOf (eventOf (take 20 (drop (20 * n) records)))
+linesOf (suc n) records = linesOf n records ++ lineOf (eventOf (take recordLength (drop (recordLength * n) records)))
 
 -- bytes are put at a place of a text; the text up to there stays, and the place behind them is told
 pub record Put (text : List ℕ) (at : ℕ) (bytes : List ℕ) (behind : ℕ) (after : List ℕ) : Type 0 where

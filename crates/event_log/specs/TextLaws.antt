@@ -12,6 +12,7 @@ use borrow.Author.Tests.{lt-ltb, le-ltb, eq-eqb, ne-eqb}
 use Rattle.io.specs.Digits.{digits, glyph, Fewest}
 use Rattle.numbers.specs.Notation.{_<ᵇ_, if_then_else_}
 use Rattle.reading.specs.declared.Event.{Event}
+use Rattle.reading.specs.Layout.{recordLength}
 use Rattle.records.specs.Due.{eventOf}
 use Rattle.event_log.specs.Text.{decimalTo, column, dip, swell, interruption, rvc, kindName, lineOf, linesOf, Put}
 
@@ -127,17 +128,17 @@ unfolding column
 column-is n k b h few e = ap (λ (l : List ℕ). 32 ∷ l) (e ∙ digits-decimal 20 k n (digits-most n k h few) few)
 
 -- one record of a buffer, and its line behind those of the records before it
-pub record-length : (records : List ℕ) (i : ℕ) → 20 * i + 20 ≤ length records → length (take (20 * i + 20 - 20 * i) (drop (20 * i) records)) ≡ 20
+pub record-length : (records : List ℕ) (i : ℕ) → recordLength * i + 20 ≤ length records → length (take (recordLength * i + 20 - recordLength * i) (drop (recordLength * i) records)) ≡ 20
 record-length records i h =
-    let n : 20 * i + 20 - 20 * i ≡ 20 = omega arith in
-    length-take-le (20 * i + 20 - 20 * i) (drop (20 * i) records) (omega (arith, length-drop (20 * i) records)) ∙ n
+    let n : recordLength * i + 20 - recordLength * i ≡ 20 = omega arith in
+    length-take-le (recordLength * i + 20 - recordLength * i) (drop (recordLength * i) records) (omega (arith, length-drop (recordLength * i) records)) ∙ n
 
-pub lines-next : (records t u : List ℕ) (i at b : ℕ) (e : Event) → take at t ≡ linesOf i records → e ≡ eventOf (take (20 * i + 20 - 20 * i) (drop (20 * i) records))
+pub lines-next : (records t u : List ℕ) (i at b : ℕ) (e : Event) → take at t ≡ linesOf i records → e ≡ eventOf (take (recordLength * i + 20 - recordLength * i) (drop (recordLength * i) records))
     → Put t at (lineOf e) b u → take b u ≡ linesOf (i + 1) records
 lines-next records t u i at b e before is p =
-    let n : 20 * i + 20 - 20 * i ≡ 20 = omega arith in
+    let n : recordLength * i + 20 - recordLength * i ≡ 20 = omega arith in
     let k : suc i ≡ i + 1 = omega arith in
     p .text-is
     ∙ (λ j. before j ++ lineOf (is j))
-    ∙ ap (λ (l : ℕ). linesOf i records ++ lineOf (eventOf (take l (drop (20 * i) records)))) n
+    ∙ ap (λ (l : ℕ). linesOf i records ++ lineOf (eventOf (take l (drop (recordLength * i) records)))) n
     ∙ ap (λ (l : ℕ). linesOf l records) k

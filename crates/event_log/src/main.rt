@@ -3,6 +3,7 @@ use libc::STDIN_FILENO;
 use libc::STDOUT_FILENO;
 use logger::Logger;
 use reading::Event;
+use records::RECORD_LENGTH;
 use settings::Settings;
 use settings::SettingsRead;
 ghost use mathlib.Core.Path.{_≡_};
@@ -13,6 +14,7 @@ ghost use Rattle.numbers.specs.Notation.{_≡ᵇ_};
 ghost use Rattle.settings.specs.Settings.{ValidSettings};
 ghost use Rattle.samples.specs.Samples.{samplesOf};
 ghost use Rattle.state.specs.State.{ValidState};
+ghost use Rattle.reading.specs.Layout.{recordLength};
 ghost use Rattle.event_log.specs.Text.{column, kindName, lineOf, linesOf, Put};
 ghost use Rattle.event_log.specs.FedAll.{fedAllFrom};
 
@@ -23,8 +25,6 @@ const CHUNK_BYTES: usize = 2 * CHUNK;
 
 // The records that a feed has room for. Four are enough: one sample never has more due.
 const RECORDS: usize = 64;
-
-const RECORD: usize = 20;
 
 // The longest line: a kind of 12 letters, four columns of a space and at most 20 digits, and the line's end.
 const LINE: usize = 97;
@@ -92,14 +92,14 @@ fn put_line(text: &mut [u8], at: usize, event: Event) -> usize
 
 // The lines of the first records, from the text's start on; tells where they end.
 fn put_lines(text: &mut [u8], records: &[u8], count: usize) -> usize
-    requires { ⌜ (20 * count ≤ length (now records)) × (97 * count ≤ length (now text)) ⌝ }
+    requires { ⌜ (recordLength * count ≤ length (now records)) × (97 * count ≤ length (now text)) ⌝ }
     ensures { λ r. ⌜ (r ≤ length (now (text .entry))) × (take r (now (text .exit)) ≡ linesOf count (now (records .entry))) ⌝ }
 {
     let mut at = 0;
     let mut i = 0;
     while i < count {
-        let start = RECORD * i;
-        let end = start + RECORD;
+        let start = RECORD_LENGTH * i;
+        let end = start + RECORD_LENGTH;
         let event = records::get_record(&records[start..end]);
         at = put_line(text, at, event);
         i += 1;
@@ -112,7 +112,7 @@ fn feed_all(logger: Logger, samples: &[i16]) -> FedAll
     requires { ⌜ ValidState (logger .state) ⌝ }
     ensures { λ r. ⌜ (r ≡ fedAllFrom logger (now (samples .entry))) × ValidState (r .logger .state) ⌝ }
 {
-    let mut records = [0u8; RECORD * RECORDS];
+    let mut records = [0u8; RECORD_LENGTH * RECORDS];
     let mut text = [0u8; LINE * RECORDS];
     let mut held = logger;
     let mut at = 0;
@@ -160,7 +160,7 @@ fn log(settings: Settings)
     requires { ⌜ ValidSettings settings ⌝ }
 {
     io::write_all(STDOUT_FILENO, b"kind start halves first second\n");
-    let mut logger = Logger::start(settings);
+    let mut logger = Logger::fresh(settings);
     let mut bytes = [0u8; CHUNK_BYTES];
     let mut more = true;
     while more {

@@ -16,6 +16,7 @@ use Rattle.settings.specs.declared.Scaled.{Scaled}
 use Rattle.settings.specs.Settings.{scaledOf}
 use Rattle.reading.specs.Changes.{sum as sumOf}
 use Rattle.reading.specs.Engineer.{room}
+use Rattle.reading.specs.Layout.{recordLength}
 use Rattle.rms.specs.declared.Part.{Part}
 use Rattle.rms.specs.declared.Gatherer.{Gatherer}
 use Rattle.rms.specs.declared.Share.{Share}
@@ -78,7 +79,7 @@ module _ (s : Settings) (w₀ : List ℕ) (block : List ℤ) (lent : List ℕ) (
     pub share-is : share ≡ cut (s .samples) g (drop at block)
     pub long : length out ≡ length lent
     pub wide : length w ≡ length w₀
-    pub fits : 20 * written ≤ length lent
+    pub fits : recordLength * written ≤ length lent
     pub share-in : at + share .count ≤ length block
     pub samples-most : s .samples ≤ 256
     pub sum-le : g .sum ≤ g .count * 2 ^ 30
@@ -86,7 +87,7 @@ module _ (s : Settings) (w₀ : List ℕ) (block : List ℤ) (lent : List ℕ) (
   walking : (w out : List ℕ) (g : Gatherer) (d : Detector) (sum at written : ℕ) (share : Share) → Progress first block lent (stateWith s g d w) at written out →
       sum ≡ sumOf w → share ≡ cut (s .samples) g (drop at block) → length out ≡ length lent → length w ≡ length w₀ → Walking w out g d sum at written share
   walking w out g d sum at written share so-far sum-is share-is long wide =
-      let within : Within (s .samples) g (drop at block) share = rw share-is (cut-within (s .samples) (drop at block) g (so-far .valid .gatherer-valid .count-lt)) in
+      let within : Within (s .samples) g (drop at block) share = rw share-is (cut-within (s .samples) (drop at block) g (so-far .valid .gatherer-valid .0)) in
       record {
         so-far = so-far;
         sum-is = sum-is;
@@ -97,7 +98,7 @@ module _ (s : Settings) (w₀ : List ℕ) (block : List ℤ) (lent : List ℕ) (
         fits = omega (arith, so-far .fits);
         share-in = omega (arith, within .inside, so-far .at-in, length-drop at block);
         samples-most = so-far .valid .settings-valid .samples-most;
-        sum-le = so-far .valid .gatherer-valid .sum-le;
+        sum-le = so-far .valid .gatherer-valid .1 .0;
       }
 
   -- it starts
@@ -117,7 +118,7 @@ module _ {s : Settings} {w₀ : List ℕ} {block : List ℤ} {lent : List ℕ} {
   left = room lent - written
 
   abbrev behind : ℕ
-  behind = 20 * written
+  behind = recordLength * written
 
   abbrev rest : List ℤ
   rest = drop at block
@@ -197,14 +198,14 @@ module _ {s : Settings} {w₀ : List ℕ} {block : List ℤ} {lent : List ℕ} {
               (subst (λ (z : State). Progress st₀ block lent z (at + n) (written + length (halfDue st p)) back) after-is
               (progress-more (inv .so-far) n (halfDue st p) (halfJoined st p) back (inv .share-in) few
               (halfJoined-valid st p (inv .so-far .valid) p-fits (t .0))
-              (feed-taken st rest left (inv .so-far .valid .gatherer-valid .count-lt) share (inv .share-is) completes (took .0))
+              (feed-taken st rest left (inv .so-far .valid .gatherer-valid .0) share (inv .share-is) completes (took .0))
               (back-is ∙ ap (λ (l : List ℕ). take behind out ++ l) (ap (λ (o : HalfOutcome). o .bytes) (took .1)))))
 
           pub taken-fits : written + h .written ≤ room lent
           taken-fits = next .fits
 
           pub taken-count : h .gatherer .count < s .samples
-          taken-count = next .valid .gatherer-valid .count-lt
+          taken-count = next .valid .gatherer-valid .0
 
           pub walk-turns : (share₁ : Share) → share₁ ≡ cut (s .samples) (h .gatherer) (take (length block - (at + n)) (drop (at + n) block)) →
               length back ≡ length out → length w₁ ≡ length w → Walking s w₀ block lent g₀ d₀ w₁ back (h .gatherer) (h .detector) (h .sum) (at + n) (written + h .written) share₁
@@ -227,7 +228,7 @@ module _ {s : Settings} {w₀ : List ℕ} {block : List ℤ} {lent : List ℕ} {
             let below : g .count + less .count < s .samples = omega (arith, inv .within .fits) in
             let bound : less .squares ≤ less .count * 2 ^ 30 = omega (arith, ended .1, ap (λ (k : Part). k .squares) less-is, ap (λ (k : Part). k .count) less-is) in
             walk-last last less (at + n - 1) (h .why) w₁ back (record { count-le = omega arith; squares-le = bound }) below (ended .0 ∙ ap (λ (k : Part). walkedWith g d k (at + n - 1) written (h .why)) less-is) window-is
-            (n - 1) (omega arith) (feed-stops st rest left (inv .so-far .valid .gatherer-valid .count-lt) share (inv .share-is) completes (h .why) (stopped .0) some) (back-is ∙ ap (λ (l : List ℕ). take behind out ++ l) bytes-are)
+            (n - 1) (omega arith) (feed-stops st rest left (inv .so-far .valid .gatherer-valid .0) share (inv .share-is) completes (h .why) (stopped .0) some) (back-is ∙ ap (λ (l : List ℕ). take behind out ++ l) bytes-are)
 
   -- none ends
   pub walk-ends : share .completes ≡ false → (last : Walked) → WalkEnds g d (take (length block - at) rest) (length block) written 0 last →
@@ -238,4 +239,4 @@ module _ {s : Settings} {w₀ : List ℕ} {block : List ℤ} {lent : List ℕ} {
       let bound : partOf rest .squares ≤ length rest * 2 ^ 30 = omega (arith, ended .1, ap (λ (k : Part). k .squares) all-is, ap (λ (k : Part). k .count) all-is) in
       walk-last last (partOf rest) (length block) 0 w out (record { count-le = omega arith; squares-le = bound }) below (ended .0 ∙ ap (λ (k : Part). walkedWith g d k (length block) written 0) all-is) refl
       (length rest) (omega (arith, length-drop at block, inv .so-far .at-in))
-      (feed-rest st rest left (inv .so-far .valid .gatherer-valid .count-lt) share (inv .share-is) leaves) (sym (take-append-drop behind out))
+      (feed-rest st rest left (inv .so-far .valid .gatherer-valid .0) share (inv .share-is) leaves) (sym (take-append-drop behind out))

@@ -7,7 +7,7 @@ use Rattle.settings.specs.declared.Settings.{Settings}
 use Rattle.settings.specs.declared.Scaled.{Scaled}
 use Rattle.settings.specs.Settings.{scaledOf}
 use Rattle.reading.specs.Changes.{sum as sumOf}
-use Rattle.reading.specs.Feed.{Outcome}
+use Rattle.reading.specs.Calls.{Outcome}
 use Rattle.reading.specs.Records.{recordBytes}
 use Rattle.reading.specs.Engineer.{over, room}
 use Rattle.rms.specs.declared.Part.{Part}

@@ -1,6 +1,7 @@
 // Feed: a block of samples, half-cycle by half-cycle. Each is taken with the records due at its value, or it is not taken, nothing changes, and the feed ends.
 use detection::Detector;
 use reading::Told;
+use records::RECORD_LENGTH;
 use rms::Gatherer;
 use rms::Part;
 use settings::Scaled;
@@ -78,7 +79,7 @@ fn complete(
     let tried = detector.try_value(settings, scaled, window, sum, value);
     let due = tried.due;
     let written = due.count();
-    if records.len() / 20 < written {
+    if records.len() / RECORD_LENGTH < written {
         return refused(gatherer, detector, sum, 1);
     }
     window::push(window, window_length as usize, count as usize, value);
@@ -143,7 +144,7 @@ pub fn walk(
     let mut share = g.cut(half_length, block);
     while share.completes {
         let end = at + share.count;
-        let behind = 20 * written;
+        let behind = RECORD_LENGTH * written;
         let part = rms::sum_squares(&block[at..end]);
         let half = complete(
             settings,

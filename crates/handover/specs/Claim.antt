@@ -5,39 +5,19 @@ use mathlib.Core.Logic.{_≢_}
 use mathlib.Core.List.{List, [], _∷_, _++_}
 use Prim.Native.Nat.{ℕ, _*_}
 use lib.ListN.{take, getD}
-use lib.IntN.{ℤ}
 use Rattle.octets.specs.Bytes.{Bytes}
 use Rattle.settings.specs.declared.Settings.{Settings}
 use Rattle.numbers.specs.Notation.{_≡ᵇ_, if_then_else_}
+use Rattle.numbers.specs.Answers.{Answered, refusalIn}
+use Rattle.numbers.specs.Answers.Answered.{accepted, refused}
 use Rattle.settings.specs.Settings.{settingsOf, startRefusal}
-use Rattle.reading.specs.declared.Readings.{Readings}
 use Rattle.reading.specs.Values.{values}
 use Rattle.reading.specs.Records.{recordBytes, events}
-use Rattle.reading.specs.Feed.{Outcome}
+use Rattle.reading.specs.Calls.{Calls}
 use Rattle.reading.specs.Engineer.{Call, Answer, emptyDesk, answers, deskAfter, WellFormed}
 use Rattle.reading.specs.Engineer.Call.{feed, look, save, restoreSave, restoreRefused}
 use Rattle.reading.specs.Engineer.Answer.{fed, looked, saved, restored}
-
--- the answers of the calls, with the bytes that were lent to them as they leave them
-pub data Started (L : Type 0) : Type 0 where
-  yielded : L → Started L
-  refused : ℕ → Started L
-
-pub record Saved : Type 0 where
-  pub number : ℕ
-  pub bytes : List ℕ
-
-pub record Restoration (L : Type 0) : Type 0 where
-  pub after : L
-  pub number : ℕ
-
--- a logger's calls: start from settings bytes; feed with a block and a record buffer; look; save with an image buffer; restore from bytes
-pub record Calls (L : Type 0) : Type 0 where
-  pub start : List ℕ → Started L
-  pub feed : L → List ℤ → List ℕ → Outcome L
-  pub look : L → Readings
-  pub save : L → List ℕ → Saved
-  pub restore : L → List ℕ → Restoration L
+use Rattle.reading.specs.Layout.{recordLength, imageLength}
 
 -- who calls it keeps the logger that the last call left or yielded, the image of each accepted save, and the records written so far, with those at each save
 pub record Caller (L : Type 0) : Type 0 where
@@ -51,24 +31,24 @@ module _ {L : Type 0} (C : Calls L) where
   loggerAnswer w (feed block lent) = let r = C .feed (w .logger) block lent in fed (r .told) (r .bytes)
   loggerAnswer w look = looked (C .look (w .logger))
   loggerAnswer w (save lent) = let r = C .save (w .logger) lent in saved (r .number) (r .bytes)
-  loggerAnswer w (restoreSave j) = restored (C .restore (w .logger) (getD (w .images) j []) .number)
-  loggerAnswer w (restoreRefused bytes) = restored (C .restore (w .logger) bytes .number)
+  loggerAnswer w (restoreSave j) = restored (refusalIn (C .restore (w .logger) (getD (w .images) j []) .answer))
+  loggerAnswer w (restoreRefused bytes) = restored (refusalIn (C .restore (w .logger) bytes .answer))
 
-  -- a feed's records are the first bytes of its buffer, 20 for each; an accepted save's image is the first 620; an accepted restore of a save sets the
+  -- a feed's records are the first bytes of its buffer, 20 for each; an accepted save's image is the first imageLength; an accepted restore of a save sets the
   -- records back to those at that save
   abbrev pub callerAfter : Caller L → Call → Caller L
   callerAfter w (feed block lent) =
       let r = C .feed (w .logger) block lent in
-      record { logger = r .after; images = w .images; written = w .written ++ take (20 * r .told .written) (r .bytes); writtenAt = w .writtenAt }
+      record { logger = r .after; images = w .images; written = w .written ++ take (recordLength * r .told .written) (r .bytes); writtenAt = w .writtenAt }
   callerAfter w look = w
   callerAfter w (save lent) =
       let r = C .save (w .logger) lent in
       if r .number ≡ᵇ 0
-      then record { logger = w .logger; images = w .images ++ (take 620 (r .bytes) ∷ []); written = w .written; writtenAt = w .writtenAt ++ (w .written ∷ []) }
+      then record { logger = w .logger; images = w .images ++ (take imageLength (r .bytes) ∷ []); written = w .written; writtenAt = w .writtenAt ++ (w .written ∷ []) }
       else w
   callerAfter w (restoreSave j) =
       let r = C .restore (w .logger) (getD (w .images) j []) in
-      record { logger = r .after; images = w .images; written = if r .number ≡ᵇ 0 then getD (w .writtenAt) j [] else w .written; writtenAt = w .writtenAt }
+      record { logger = r .after; images = w .images; written = if refusalIn (r .answer) ≡ᵇ 0 then getD (w .writtenAt) j [] else w .written; writtenAt = w .writtenAt }
   callerAfter w (restoreRefused bytes) =
       record { logger = C .restore (w .logger) bytes .after; images = w .images; written = w .written; writtenAt = w .writtenAt }
 
@@ -90,8 +70,8 @@ module _ {L : Type 0} (C : Calls L) where
     pub same-records : callerAfterAll (freshCaller l) cs .written ≡ recordBytes (events s (values s (deskAfter s emptyDesk cs .recording)))
 
   -- what start's answer to settings bytes promises
-  abbrev pub Kept : List ℕ → Started L → Type 0
-  Kept b (yielded l) = (startRefusal b ≡ 0) × ((cs : List Call) → WellFormed 0 cs → Agree (settingsOf b) l cs)
+  abbrev pub Kept : List ℕ → Answered L → Type 0
+  Kept b (accepted l) = (startRefusal b ≡ 0) × ((cs : List Call) → WellFormed 0 cs → Agree (settingsOf b) l cs)
   Kept b (refused n) = (startRefusal b ≡ n) × (n ≢ 0)
 
   -- DEMAND 3: for every settings bytes that start accepts, and every well-formed list of calls from the fresh logger

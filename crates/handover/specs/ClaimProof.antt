@@ -9,11 +9,11 @@ use lib.ListN.{length, take, drop, getD, length-append}
 use lib.Seq.{take-at}
 use lib.IntN.{ℤ}
 use Rattle.settings.specs.declared.Settings.{Settings}
-use Rattle.settings.specs.declared.SettingsRead.{SettingsRead}
-use Rattle.settings.specs.declared.SettingsRead.the-variants as settings-read
 use Rattle.numbers.specs.Notation.{_<ᵇ_, _≡ᵇ_, if_then_else_}
-use Rattle.settings.specs.Settings.{settingsOf, startRefusal, answerOf, settingsRead, ValidSettings}
-use Rattle.settings.specs.SettingsLaws.{read-accepted, refused-refusal}
+use Rattle.numbers.specs.Answers.{refusalIn, Answered}
+use Rattle.numbers.specs.Answers.Answered.{accepted, refused}
+use Rattle.settings.specs.Settings.{settingsRead, ValidSettings}
+use Rattle.settings.specs.SettingsLaws.{read-accepted, read-refused}
 use Rattle.reading.specs.Values.{Samples, valueCount, history, values}
 use Rattle.reading.specs.Records.{recordBytes, events}
 use Rattle.reading.specs.Image.{imageOf}
@@ -22,6 +22,7 @@ use Rattle.reading.specs.Feed.{completed, taken}
 use Rattle.reading.specs.Engineer.{Call, Desk, over, room, emptyDesk, answer, deskWith, answers, deskAfter, WellFormed}
 use Rattle.reading.specs.Engineer.Call.{feed, look, save, restoreSave, restoreRefused}
 use Rattle.reading.specs.Engineer.Answer.{fed, looked, saved, restored}
+use Rattle.reading.specs.Layout.{recordLength, imageLength}
 use Rattle.reading_laws.specs.CompletedLaws.{events-completed}
 use Rattle.records.specs.DueLaws.{length-recordBytes, recordBytes-append}
 use Rattle.greedy.specs.GreedyFollows.{Recording, fedBy-follows, recording-fed}
@@ -34,8 +35,8 @@ use Rattle.state.specs.Calls.{outcomeOf, fedWith}
 use Rattle.image.specs.Image.{imageBytes, saveAnswer, savedBytes, restoredBy}
 use Rattle.image.specs.ImageLaws.{length-imageBytes, restoredBy-saved, restoredBy-refused}
 use Rattle.image.specs.ImageFollows.{image-of-state}
+use Rattle.logger.specs.Calls.{startedFrom, loggerCalls}
 use Rattle.handover.specs.Claim.{Caller, loggerAnswer, callerAfter, loggerAnswers, callerAfterAll, freshCaller, Agree, Kept, Demand3}
-use Rattle.handover.specs.TheCalls.{numberOfAnswer, startedFrom, loggerCalls}
 
 -- lists of copies
 abbrev pub AllRecordings : Settings → List (List ℤ) → Type 0
@@ -61,7 +62,7 @@ getD-map f (x ∷ xs) zero a b h = refl
 getD-map f (x ∷ xs) (suc j) a b h = getD-map f xs j a b (omega arith)
 
 -- the bytes written at the front of a buffer
-take-over : (n : ℕ) (bytes lent : List ℕ) → length bytes ≡ n → take n (over bytes lent) ≡ bytes
+pub take-over : (n : ℕ) (bytes lent : List ℕ) → length bytes ≡ n → take n (over bytes lent) ≡ bytes
 take-over n bytes lent l = take-at bytes (drop (length bytes) lent) n l
 
 module _ (s : Settings) (valid : ValidSettings s) where
@@ -104,8 +105,8 @@ module _ (s : Settings) (valid : ValidSettings s) where
         let F = fedBy-follows s some machine (stateOf s) (steps-of s some) block rec (room lent) (ok .recording-ok .within) in
         let n = taken s rec block (room lent) in
         let es = completed s rec block n in
-        let grown : recordsOf rec ++ take (20 * length es) (over (recordBytes es) lent) ≡ recordsOf (rec ++ take n block) =
-        ap (λ (bytes : List ℕ). recordsOf rec ++ bytes) (take-over (20 * length es) (recordBytes es) lent (length-recordBytes es))
+        let grown : recordsOf rec ++ take (recordLength * length es) (over (recordBytes es) lent) ≡ recordsOf (rec ++ take n block) =
+        ap (λ (bytes : List ℕ). recordsOf rec ++ bytes) (take-over (recordLength * length es) (recordBytes es) lent (length-recordBytes es))
         ∙ sym (ap recordBytes (events-completed s some rec block n) ∙ recordBytes-append (events s (values s rec)) es) in
         record {
           same-answer = λ i. fed (outcomeOf lent (F i) .told) (outcomeOf lent (F i) .bytes);
@@ -113,7 +114,7 @@ module _ (s : Settings) (valid : ValidSettings s) where
               (λ i. record {
                 logger = F i .after;
                 images = map (imageOf s) copies;
-                written = recordsOf rec ++ take (20 * length (F i .events)) (over (recordBytes (F i .events)) lent);
+                written = recordsOf rec ++ take (recordLength * length (F i .events)) (over (recordBytes (F i .events)) lent);
                 writtenAt = map recordsOf copies;
               })
               ∙ (λ i. record { logger = stateOf s (rec ++ take n block); images = map (imageOf s) copies; written = grown i; writtenAt = map recordsOf copies });
@@ -123,17 +124,17 @@ module _ (s : Settings) (valid : ValidSettings s) where
     look-step : CallAgrees d look
     look-step = record { same-answer = ap looked (readings-of s rec); same-kept = refl; ok = ok }
 
-    image-first : (lent : List ℕ) → take 620 (over (imageBytes (stateOf s rec)) lent) ≡ imageOf s rec
+    image-first : (lent : List ℕ) → take imageLength (over (imageBytes (stateOf s rec)) lent) ≡ imageOf s rec
     image-first lent =
         let v = stateOf-valid s rec valid (ok .recording-ok) in
-        take-over 620 (imageBytes (stateOf s rec)) lent (length-imageBytes (stateOf s rec) (v .window-valid .size)) ∙ image-of-state s rec
+        take-over imageLength (imageBytes (stateOf s rec)) lent (length-imageBytes (stateOf s rec) (v .window-valid .size)) ∙ image-of-state s rec
 
     save-step : (lent : List ℕ) → CallAgrees d (save lent)
     unfolding saveAnswer savedBytes
     save-step lent = record { same-answer = answered short; same-kept = kept short; ok = kept-ok short }
       where
         short : Bool
-        short = length lent <ᵇ 620
+        short = length lent <ᵇ imageLength
 
         answered : (b : Bool) →
             saved (if b then 7 else 0) (if b then lent else over (imageBytes (stateOf s rec)) lent) ≡ (if b then saved 7 lent else saved 0 (over (imageOf s rec) lent))
@@ -143,14 +144,14 @@ module _ (s : Settings) (valid : ValidSettings s) where
         deskWith : Bool → Desk
         deskWith b = if b then d else record { recording = rec; copies = copies ++ (rec ∷ []) }
 
-        images-with : map (imageOf s) copies ++ (take 620 (over (imageBytes (stateOf s rec)) lent) ∷ []) ≡ map (imageOf s) (copies ++ (rec ∷ []))
+        images-with : map (imageOf s) copies ++ (take imageLength (over (imageBytes (stateOf s rec)) lent) ∷ []) ≡ map (imageOf s) (copies ++ (rec ∷ []))
         images-with = ap (λ (image : List ℕ). map (imageOf s) copies ++ (image ∷ [])) (image-first lent) ∙ map-snoc (imageOf s) copies rec
 
         kept : (b : Bool) →
             (if (if b then 7 else 0) ≡ᵇ 0
             then record {
               logger = stateOf s rec;
-              images = map (imageOf s) copies ++ (take 620 (if b then lent else over (imageBytes (stateOf s rec)) lent) ∷ []);
+              images = map (imageOf s) copies ++ (take imageLength (if b then lent else over (imageBytes (stateOf s rec)) lent) ∷ []);
               written = recordsOf rec;
               writtenAt = map recordsOf copies ++ (recordsOf rec ∷ []);
             }
@@ -170,12 +171,12 @@ module _ (s : Settings) (valid : ValidSettings s) where
         let P = ap (restoredBy (stateOf s rec)) (getD-map (imageOf s) copies j [] [] h ∙ sym (image-of-state s back))
         ∙ restoredBy-saved (stateOf s back) (stateOf-valid s back valid back-ok) (stateOf s rec) in
         record {
-          same-answer = λ i. restored (numberOfAnswer (P i .answer));
+          same-answer = λ i. restored (refusalIn (P i .answer));
           same-kept =
               (λ i. record {
-                logger = P i .state;
+                logger = P i .after;
                 images = map (imageOf s) copies;
-                written = if numberOfAnswer (P i .answer) ≡ᵇ 0 then getD (map recordsOf copies) j [] else recordsOf rec;
+                written = if refusalIn (P i .answer) ≡ᵇ 0 then getD (map recordsOf copies) j [] else recordsOf rec;
                 writtenAt = map recordsOf copies;
               })
               ∙ (λ i. record { logger = stateOf s back; images = map (imageOf s) copies; written = getD-map recordsOf copies j [] [] h i; writtenAt = map recordsOf copies });
@@ -186,8 +187,8 @@ module _ (s : Settings) (valid : ValidSettings s) where
     refuse-step bytes h =
         let P = restoredBy-refused (stateOf s rec) bytes h in
         record {
-          same-answer = λ i. restored (numberOfAnswer (P i .answer));
-          same-kept = λ i. record { logger = P i .state; images = map (imageOf s) copies; written = recordsOf rec; writtenAt = map recordsOf copies };
+          same-answer = λ i. restored (refusalIn (P i .answer));
+          same-kept = λ i. record { logger = P i .after; images = map (imageOf s) copies; written = recordsOf rec; writtenAt = map recordsOf copies };
           ok = ok;
         }
 
@@ -216,7 +217,7 @@ module _ (s : Settings) (valid : ValidSettings s) where
   run (look ∷ cs) d ok w = step-run d look cs (look-step d ok) (run cs d ok w)
   run (save lent ∷ cs) d ok w =
       let p = save-step d ok lent in
-      step-run d (save lent) cs p (run cs (deskWith s d (save lent)) (p .ok) (copies-more d (length lent <ᵇ 620) cs (w .1)))
+      step-run d (save lent) cs p (run cs (deskWith s d (save lent)) (p .ok) (copies-more d (length lent <ᵇ imageLength) cs (w .1)))
   run (restoreSave j ∷ cs) d ok w = let p = restore-step d ok j (w .0) in step-run d (restoreSave j) cs p (run cs (deskWith s d (restoreSave j)) (p .ok) (w .1))
   run (restoreRefused bytes ∷ cs) d ok w = step-run d (restoreRefused bytes) cs (refuse-step d ok bytes (w .1)) (run cs d ok (w .2))
 
@@ -240,19 +241,11 @@ module _ (s : Settings) (valid : ValidSettings s) where
       }
 
 -- start: settings bytes in, a fresh logger or a refusal out
-refused-some : (b : List ℕ) (n : ℕ) → settingsRead b ≡ settings-read.Refused n → n ≡ 0 → ⊥
-unfolding settingsRead
-refused-some b n e z = go (startRefusal b) refl e
-  where
-    go : (k : ℕ) → startRefusal b ≡ k → answerOf k (settingsOf b) ≡ settings-read.Refused n → ⊥
-    go zero p q = let c : _≡_ {A = ℕ} 0 1 = cc in omega arith
-    go (suc k) p q = let c : suc k ≡ n = cc in omega arith
-
 pub demand3-holds : Demand3 loggerCalls
 demand3-holds b are = go (settingsRead b) refl
   where
-    go : (r : SettingsRead) → settingsRead b ≡ r → Kept loggerCalls b (startedFrom r)
-    go (settings-read.Read s) e =
+    go : (r : Answered Settings) → settingsRead b ≡ r → Kept loggerCalls b (startedFrom r)
+    go (accepted s) e =
         let a = read-accepted b s e in
         (a .none, λ cs w. subst (λ (z : Settings). Agree loggerCalls z (fresh s) cs) (a .settings-are) (agrees s (a .valid) cs w))
-    go (settings-read.Refused n) e = (refused-refusal b n e, refused-some b n e)
+    go (refused n) e = read-refused b n e

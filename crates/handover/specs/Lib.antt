@@ -1,3 +1,4 @@
 pub mod Claim
-pub mod TheCalls
 pub mod ClaimProof
+pub mod Demand2
+pub mod Demand2Proof

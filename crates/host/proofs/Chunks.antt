@@ -10,6 +10,7 @@ use lib.IntN.{ℤ}
 use borrow.Rule.Slice.PartMut.{putMid}
 use Rattle.reading.specs.declared.Told.{Told}
 use Rattle.reading.specs.Engineer.{room}
+use Rattle.reading.specs.Layout.{recordLength}
 use Rattle.samples.specs.Samples.{samplesOf}
 use Rattle.samples.specs.SamplesLaws.{length-samples, samplesOf-drop, samplesOf-take}
 use Rattle.greedy.specs.Greedy.{fedBy}
@@ -25,7 +26,7 @@ module _ (st₀ : State) (b lent : List ℕ) where
     pub so-far : Progress st₀ (samplesOf b) lent st at written out
     pub long : length out ≡ length lent
     pub inside : at ≤ length b / 2
-    pub fits : 20 * written ≤ length lent
+    pub fits : recordLength * written ≤ length lent
 
   chunks : (out : List ℕ) (st : State) (at written : ℕ) → Progress st₀ (samplesOf b) lent st at written out → length out ≡ length lent → Chunks out st at written
   chunks out st at written so-far long =
@@ -46,12 +47,12 @@ module _ {st₀ : State} {b lent out : List ℕ} {st : State} {at written : ℕ}
       let w : written ≡ written + 0 = omega arith in
       (λ i. fedTo st (record { taken = t i; written = w i; why = 0 }) out)
       ∙ progress-last (inv .so-far) (record { after = st; taken = 0; events = []; why = 0 }) out
-      (ap (λ (xs : List ℤ). fedBy machine st xs (room lent - written)) none) (sym (take-append-drop (20 * written) out))
+      (ap (λ (xs : List ℤ). fedBy machine st xs (room lent - written)) none) (sym (take-append-drop (recordLength * written) out))
 
   -- a chunk of k samples, decoded into the front of `places` and fed
   module _ {k : ℕ} (in-bytes : at + k ≤ length b / 2) (places : List ℤ) {read : List ℤ} (many : length read ≡ k)
       (read-is : read ≡ samplesOf (take (2 * at + 2 * k - 2 * at) (drop (2 * at) b))) {end : State} {told : Told} {part : List ℕ}
-      (fed : (fedTo end told part ≡ fedWith st (take k (read ++ drop k places)) (take (length out - 20 * written) (drop (20 * written) out))) × ValidState end) where
+      (fed : (fedTo end told part ≡ fedWith st (take k (read ++ drop k places)) (take (length out - recordLength * written) (drop (recordLength * written) out))) × ValidState end) where
     inside : at + k ≤ length (samplesOf b)
     inside = omega (arith, length-samples b)
 
@@ -64,8 +65,8 @@ module _ {st₀ : State} {b lent out : List ℕ} {st : State} {at written : ℕ}
         ∙ samplesOf-take k (drop (2 * at) b) (omega (arith, length-drop (2 * at) b))
         ∙ ap (take k) (samplesOf-drop at b (omega arith))
 
-    is : fedTo end told part ≡ fedWith st (take k (drop at (samplesOf b))) (drop (20 * written) out)
-    is = fed .0 ∙ (λ i. fedWith st (chunk-is i) (lent-behind (20 * written) out i))
+    is : fedTo end told part ≡ fedWith st (take k (drop at (samplesOf b))) (drop (recordLength * written) out)
+    is = fed .0 ∙ (λ i. fedWith st (chunk-is i) (lent-behind (recordLength * written) out i))
 
     pub taken-few : told .taken ≤ k
     taken-few = chunk-taken (inv .so-far) k inside (inv .long) (fed .1) is
@@ -74,10 +75,10 @@ module _ {st₀ : State} {b lent out : List ℕ} {st : State} {at written : ℕ}
     written-fit = chunk-fits (inv .so-far) k inside (inv .long) (fed .1) is
 
     abbrev back : List ℕ
-    back = putMid (20 * written) (length out - 20 * written) out part
+    back = putMid (recordLength * written) (length out - recordLength * written) out part
 
-    back-is : back ≡ take (20 * written) out ++ part
-    back-is = back-behind (20 * written) out part (omega (arith, inv .fits, inv .long))
+    back-is : back ≡ take (recordLength * written) out ++ part
+    back-is = back-behind (recordLength * written) out part (omega (arith, inv .fits, inv .long))
 
     pub chunks-turn : told .why ≡ 0 → length back ≡ length out → Chunks st₀ b lent back end (at + k) (written + told .written)
     chunks-turn none same = chunks st₀ b lent back end (at + k) (written + told .written) (chunk-more (inv .so-far) k inside (inv .long) (fed .1) is none back back-is) (same ∙ inv .long)

@@ -1,21 +1,21 @@
 -- What the two calls of a host answer, and what they leave in each lent buffer.
-use mathlib.Core.List.{List, _++_}
+use mathlib.Core.List.{List, [], _∷_}
 use Prim.Native.Nat.{ℕ, zero, suc, _%_}
 use lib.ListN.{length}
-use Rattle.octets.specs.Bytes.{bytesOf}
+use Rattle.octets.specs.Bytes.{row}
 use Rattle.numbers.specs.Notation.{_≤ᵇ_, _≡ᵇ_, refuse_unless_then_}
-use Rattle.settings.specs.declared.SettingsRead.{SettingsRead}
-use Rattle.settings.specs.declared.SettingsRead.the-variants.{Read, Refused}
-use Rattle.settings.specs.Settings.{settingsRead}
+use Rattle.numbers.specs.Answers.{Answered}
+use Rattle.numbers.specs.Answers.Answered.{accepted, refused}
 use Rattle.reading.specs.declared.Told.{Told}
 use Rattle.reading.specs.Restore.{restoreRefusal}
-use Rattle.reading.specs.Feed.{Outcome}
+use Rattle.reading.specs.Calls.{Outcome}
 use Rattle.reading.specs.Engineer.{over}
+use Rattle.reading.specs.Layout.{imageLength, replyWidths, replyLength}
 use Rattle.samples.specs.Samples.{samplesOf}
 use Rattle.state.specs.declared.State.{State}
-use Rattle.state.specs.State.{fresh}
 use Rattle.state.specs.Calls.{fedWith}
-use Rattle.image.specs.Image.{imageBytes, stateAt, saveAnswer, savedBytes}
+use Rattle.image.specs.Image.{imageBytes, stateAt}
+use Rattle.logger.specs.Calls.{loggerCalls}
 
 -- a call's answer, and the buffers that it may write as it leaves them
 pub record Begun : Type 0 where
@@ -35,24 +35,24 @@ abbrev pub advancedTo : ℕ → List ℕ → List ℕ → List ℕ → Advanced
 advancedTo number next records reply = record { number = number; next = next; records = records; reply = reply }
 
 -- begin: start's refusals, then 7; else a fresh image
-abbrev pub begunBy : SettingsRead → List ℕ → Begun
-begunBy (Read s) lent = begunTo (saveAnswer lent) (savedBytes (fresh s) lent)
-begunBy (Refused n) lent = begunTo n lent
+abbrev pub begunBy : Answered State → List ℕ → Begun
+begunBy (accepted st) lent = let r = loggerCalls .save st lent in begunTo (r .number) (r .bytes)
+begunBy (refused n) lent = begunTo n lent
 
 unfoldable pub begun : List ℕ → List ℕ → Begun
-begun b lent = begunBy (settingsRead b) lent
+begun b lent = begunBy (loggerCalls .start b) lent
 
 -- advance: restore's refusals, 12 for an odd number of sample bytes, 7 for the next image's buffer, 13 for the reply; else 0
 abbrev pub advanceRefusal : List ℕ → List ℕ → List ℕ → List ℕ → ℕ
 advanceRefusal image samples next reply =
     refuse restoreRefusal image unless restoreRefusal image ≡ᵇ 0 then
     refuse 12 unless length samples % 2 ≡ᵇ 0 then
-    refuse 7 unless 620 ≤ᵇ length next then
-    refuse 13 unless 24 ≤ᵇ length reply then 0
+    refuse 7 unless imageLength ≤ᵇ length next then
+    refuse 13 unless replyLength ≤ᵇ length reply then 0
 
--- taken, written and why, 8 bytes each, and the reply's further bytes as they were
+-- taken, written and why, and the reply's further bytes as they were
 unfoldable pub replied : Told → List ℕ → List ℕ
-replied told reply = over (bytesOf 8 (told .taken) ++ (bytesOf 8 (told .written) ++ bytesOf 8 (told .why))) reply
+replied told reply = over (row replyWidths (told .taken ∷ told .written ∷ told .why ∷ [])) reply
 
 -- where it refuses, all buffers are as they were; else those of feed, the reply and save
 abbrev pub advancedBy : ℕ → Outcome State → List ℕ → List ℕ → List ℕ → Advanced

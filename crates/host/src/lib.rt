@@ -2,9 +2,10 @@
 use image::Acceptance;
 use logger::Fed;
 use logger::Logger;
+use logger::Started;
 use reading::Told;
+use records::RECORD_LENGTH;
 use settings::Settings;
-use settings::SettingsRead;
 ghost use mathlib.Core.Path.{_≡_};
 ghost use Prim.Native.Nat.{_≤_, min};
 ghost use lib.ListN.{length};
@@ -13,9 +14,13 @@ ghost use Rattle.samples.specs.Samples.{samplesOf};
 ghost use Rattle.state.specs.State.{ValidState};
 ghost use Rattle.state.specs.Calls.{fedWith};
 ghost use Rattle.logger.specs.Logger.{fedTo};
+ghost use Rattle.reading.specs.Layout.{replyLength};
 ghost use Rattle.host.specs.Host.{begunTo, begun, replied, advancedTo, advanced};
 
+// A reply: taken, written, why.
 const REPLY_LENGTH: usize = 24;
+
+const REPLY_WIDTHS: [u8; 3] = [8; 3];
 
 // How many samples are decoded at a time.
 const CHUNK: usize = 1024;
@@ -58,7 +63,7 @@ fn feed_chunks(logger: Logger, bytes: &[u8], records: &mut [u8]) -> Fed
         let size = chunk_of(count - at);
         let start = 2 * at;
         let end = start + 2 * size;
-        let behind = 20 * written;
+        let behind = RECORD_LENGTH * written;
         samples::decode(&bytes[start..end], &mut samples[..size]);
         let fed = held.feed(&samples[..size], &mut records[behind..]);
         let told = fed.told;
@@ -88,14 +93,14 @@ fn feed_chunks(logger: Logger, bytes: &[u8], records: &mut [u8]) -> Fed
     }
 }
 
-// Taken, written and why into the first 24 bytes of a reply.
+// Taken, written and why into the first bytes of a reply.
 fn put_reply(reply: &mut [u8], told: Told)
-    requires { ⌜ 24 ≤ length (now reply) ⌝ }
+    requires { ⌜ replyLength ≤ length (now reply) ⌝ }
     ensures { λ _. ⌜ now (reply .exit) ≡ replied told (now (reply .entry)) ⌝ }
 {
-    octets::put_u64(&mut reply[0..8], told.taken as u64);
-    octets::put_u64(&mut reply[8..16], told.written as u64);
-    octets::put_u64(&mut reply[16..24], told.why as u64);
+    let widths = REPLY_WIDTHS;
+    let numbers = [told.taken as u64, told.written as u64, told.why as u64];
+    octets::put_row(&mut reply[0..REPLY_LENGTH], &widths, &numbers);
 }
 
 // Writes the image of a fresh logger.
@@ -103,12 +108,9 @@ fn put_reply(reply: &mut [u8], told: Told)
 pub extern "C" fn pq_begin(settings: &[u8], image: &mut [u8]) -> u32
     ensures { λ r. ⌜ begunTo r (now (image .exit)) ≡ begun (now (settings .entry)) (now (image .entry)) ⌝ }
 {
-    match Settings::from_bytes(settings) {
-        SettingsRead::Read(read) => {
-            let logger = Logger::start(read);
-            logger.save(image)
-        }
-        SettingsRead::Refused(number) => number,
+    match Logger::start(settings) {
+        Started::Yielded(logger) => logger.save(image),
+        Started::Refused(number) => number,
     }
 }
 
@@ -124,7 +126,7 @@ pub extern "C" fn pq_advance(
     ensures { λ r. ⌜ advancedTo r (now (next .exit)) (now (records .exit)) (now (reply .exit))
         ≡ advanced (now (image .entry)) (now (samples .entry)) (now (next .entry)) (now (records .entry)) (now (reply .entry)) ⌝ }
 {
-    let spare = Logger::start(plain_settings());
+    let spare = Logger::fresh(plain_settings());
     let resumed = spare.restore(image);
     let answer = resumed.answer;
     let logger = resumed.logger;
@@ -134,7 +136,7 @@ pub extern "C" fn pq_advance(
             if samples.len() % 2 != 0 {
                 return 12;
             }
-            if next.len() < image::IMAGE_LENGTH {
+            if next.len() < bodies::IMAGE_LENGTH {
                 return 7;
             }
             if reply.len() < REPLY_LENGTH {

@@ -1,108 +1,108 @@
 -- Restore is read section by section, as the code does it: what it leaves, by the answer of a section where those before it are good.
-use mathlib.Core.Path.{_≡_, refl, _∙_, ap}
-use mathlib.Core.Bool.{Bool, true, false, _&&_}
+use mathlib.Core.Path.{_≡_, refl, sym, _∙_, ap}
+use mathlib.Core.Bool.{Bool, true, false}
 use mathlib.Core.List.{List}
 use Prim.Native.Nat.{ℕ, zero, suc}
-use lib.ListN.{length}
+use lib.ListN.{length, drop, getD}
 use lib.Dec.{eqb·suc-zero}
 use borrow.Author.Tests.{eq-eqb, ne-eqb}
-use Rattle.octets.specs.Bytes.{numberAt}
-use Rattle.numbers.specs.Notation.{_≡ᵇ_, refuse_unless_then_}
-use Rattle.numbers.specs.NotationLaws.{refuse-fails, refuse-passes}
+use Rattle.numbers.specs.Notation.{_≡ᵇ_, flag, refuse_unless_then_}
+use Rattle.numbers.specs.NotationLaws.{refuse-fails, refuse-passes, back-flag}
+use Rattle.numbers.specs.Answers.{Answered, answered}
+use Rattle.numbers.specs.Answers.Answered.{accepted, refused}
+use Rattle.numbers.specs.Rules.{Rule, passes}
+use Rattle.numbers.specs.RulesLaws.{holds}
 use Rattle.settings.specs.declared.Settings.{Settings}
-use Rattle.settings.specs.declared.SettingsRead.{SettingsRead}
-use Rattle.settings.specs.declared.SettingsRead.the-variants as of-settings
-use Rattle.settings.specs.Settings.{settingsOf, startRefusal, answerOf, settingsRead}
+use Rattle.settings.specs.Settings.{windowLength, settingsOf, startRefusal, settingsRead}
+use Rattle.reading.specs.Layout.{tableLength, gathererLength, eventsLength, imageLength, gathererOffset, eventsOffset}
 use Rattle.reading.specs.Image.{table}
-use Rattle.reading.specs.Restore.{part, sameBytes, gathererGood, valuesGood, eventsGood, restoreRefusal}
+use Rattle.reading.specs.Restore.{part, sameBytes, gathererRule, valuesRule, eventsRule, settingsPart, gathererIn, valuesIn, eventsIn, restoreRefusal}
+use Rattle.reading.specs.Calls.{Restoration}
 use Rattle.rms.specs.declared.Gatherer.{Gatherer}
+use Rattle.detection.specs.declared.Detector.{Detector}
 use Rattle.state.specs.declared.State.{State}
 use Rattle.state.specs.State.{stateWith}
-use Rattle.bodies.specs.declared.Verdict.{Verdict}
-use Rattle.bodies.specs.declared.Verdict.the-variants.{Good, Bad}
-use Rattle.bodies.specs.declared.GathererRead.{GathererRead}
-use Rattle.bodies.specs.declared.GathererRead.the-variants as of-gatherer
-use Rattle.bodies.specs.declared.DetectorRead.{DetectorRead}
-use Rattle.bodies.specs.declared.DetectorRead.the-variants as of-detector
-use Rattle.bodies.specs.Bodies.{gathererAt, windowAt, detectorAt, verdictOf, gathererReadBy, detectorReadBy}
-use Rattle.bodies.specs.Bodies.{tableAnswer, gathererAnswer, windowAnswer, detectorAnswer}
-use Rattle.image.specs.declared.Acceptance.the-variants.{Accepted}
-use Rattle.image.specs.declared.Restored.{Restored}
+use Rattle.bodies.specs.Bodies.{gathererFrom, detectorFrom, tableRefusal, bodyRefusal, gathererAnswer, detectorAnswer}
 use Rattle.image.specs.Image.{stateAt, refusedBy, restoredFrom, restoredBy}
 
 module _ (old : State) (b : List ℕ) where
-  abbrev pub by-detector : Settings → Gatherer → DetectorRead → Restored
-  by-detector s g (of-detector.Read d) = record { answer = Accepted; state = stateWith s g d (windowAt (part 92 484 b)) }
-  by-detector s g of-detector.Refused = refusedBy 11 old
+  abbrev pub by-detector : Settings → Gatherer → Answered Detector → Restoration State
+  by-detector s g (accepted d) = record { after = stateWith s g d (drop 1 (valuesIn b)); answer = accepted tt }
+  by-detector s g (refused n) = refusedBy n old
 
-  abbrev pub by-window : Settings → ℕ → Gatherer → Verdict → Restored
-  by-window s v g Good = by-detector s g (detectorAnswer s v (part 576 44 b))
-  by-window s v g Bad = refusedBy 11 old
+  abbrev pub by-window : Settings → Gatherer → ℕ → Restoration State
+  by-window s g zero = by-detector s g (detectorAnswer s (getD (valuesIn b) 0 0) (part eventsOffset eventsLength b))
+  by-window s g (suc n) = refusedBy (suc n) old
 
-  abbrev pub by-gatherer : Settings → ℕ → GathererRead → Restored
-  by-gatherer s v (of-gatherer.Read g) = by-window s v g (windowAnswer s (part 92 484 b) .verdict)
-  by-gatherer s v of-gatherer.Refused = refusedBy 11 old
+  abbrev pub by-gatherer : Settings → Answered Gatherer → Restoration State
+  by-gatherer s (accepted g) = by-window s g (bodyRefusal (valuesRule (windowLength s) (flag (g .whole)) (valuesIn b)))
+  by-gatherer s (refused n) = refusedBy n old
 
-  abbrev pub by-settings : SettingsRead → Restored
-  by-settings (of-settings.Read s) = by-gatherer s (numberAt 92 4 b) (gathererAnswer s (numberAt 92 4 b) (part 68 24 b))
-  by-settings (of-settings.Refused n) = refusedBy 10 old
+  abbrev pub by-settings : Answered Settings → Restoration State
+  by-settings (accepted s) = by-gatherer s (gathererAnswer s (part gathererOffset gathererLength b))
+  by-settings (refused n) = refusedBy 10 old
 
-  abbrev pub by-table : Verdict → Restored
-  by-table Good = by-settings (settingsRead (part 32 36 b))
-  by-table Bad = refusedBy 9 old
+  abbrev pub by-table : ℕ → Restoration State
+  by-table zero = by-settings (settingsRead (settingsPart b))
+  by-table (suc n) = refusedBy (suc n) old
 
   -- each section's answer is its test's, so the first that fails is the refusal
   abbrev s : Settings
-  s = settingsOf (part 32 36 b)
+  s = settingsOf (settingsPart b)
 
-  abbrev v : ℕ
-  v = numberAt 92 4 b
+  abbrev n : ℕ
+  n = windowLength s
 
   abbrev gatherer : Gatherer
-  gatherer = gathererAt (part 68 24 b)
+  gatherer = gathererFrom (gathererIn b)
 
-  abbrev left : ℕ → Restored
-  left n = restoredFrom n old (stateAt b)
+  abbrev left : ℕ → Restoration State
+  left k = restoredFrom k old (stateAt b)
 
-  abbrev valuesTest : Bool
-  valuesTest = valuesGood s (part 92 484 b)
+  abbrev gathererBody : Rule
+  gathererBody = gathererRule (s .samples) (gathererIn b)
 
-  abbrev eventsTest : Bool
-  eventsTest = eventsGood s v (part 576 44 b)
+  abbrev valuesBody : ℕ → Rule
+  valuesBody mark = valuesRule n mark (valuesIn b)
 
-  abbrev bodiesTest : Bool
-  bodiesTest = gathererGood s v (part 68 24 b) && (valuesTest && eventsTest)
+  abbrev eventsBody : Rule
+  eventsBody = eventsRule n (getD (valuesIn b) 0 0) (eventsIn b)
 
-  detector-told : (t : Bool) → left (refuse 11 unless t then 0) ≡ by-detector s gatherer (detectorReadBy t (detectorAt v (part 576 44 b)))
+  detector-told : (t : Bool) → left (refuse 11 unless t then 0) ≡ by-detector s gatherer (answered (refuse 11 unless t then 0) (detectorFrom (getD (valuesIn b) 0 0) (eventsIn b)))
   unfolding stateAt
   detector-told true = refl
   detector-told false = refl
 
-  window-told : (t : Bool) → left (refuse 11 unless t && eventsTest then 0) ≡ by-window s v gatherer (verdictOf t)
+  window-told : (t : Bool) → left (refuse 11 unless t then bodyRefusal eventsBody) ≡ by-window s gatherer (refuse 11 unless t then 0)
   unfolding detectorAnswer
-  window-told true = detector-told eventsTest
+  window-told true = detector-told (passes eventsBody)
   window-told false = refl
 
-  gatherer-told : (t : Bool) → left (refuse 11 unless t && (valuesTest && eventsTest) then 0) ≡ by-gatherer s v (gathererReadBy t gatherer)
-  unfolding windowAnswer
-  gatherer-told true = window-told valuesTest
-  gatherer-told false = refl
+  gatherer-told : (t : Bool) → passes gathererBody ≡ t →
+      left (refuse 11 unless t then refuse 11 unless passes (valuesBody (getD (gathererIn b) 3 0)) then bodyRefusal eventsBody)
+      ≡ by-gatherer s (answered (refuse 11 unless t then 0) gatherer)
+  gatherer-told true e =
+      let mark : flag (gatherer .whole) ≡ getD (gathererIn b) 3 0 = back-flag _ (holds gathererBody e .1 .1 .1 .0) in
+      window-told (passes (valuesBody (getD (gathererIn b) 3 0))) ∙ ap (λ (k : ℕ). by-window s gatherer (bodyRefusal (valuesBody k))) (sym mark)
+  gatherer-told false e = refl
 
-  settings-told : (k : ℕ) → left (refuse 10 unless k ≡ᵇ 0 then refuse 11 unless bodiesTest then 0) ≡ by-settings (answerOf k s)
+  abbrev bodies : ℕ
+  bodies = refuse 11 unless passes gathererBody then refuse 11 unless passes (valuesBody (getD (gathererIn b) 3 0)) then bodyRefusal eventsBody
+
+  settings-told : (k : ℕ) → left (refuse 10 unless k ≡ᵇ 0 then bodies) ≡ by-settings (answered k s)
   unfolding gathererAnswer
-  settings-told zero = gatherer-told (gathererGood s v (part 68 24 b))
+  settings-told zero = gatherer-told (passes gathererBody) refl
   settings-told (suc k) = rw (eqb·suc-zero k)
 
-  table-told : (t : Bool) →
-      left (refuse 9 unless t then refuse 10 unless startRefusal (part 32 36 b) ≡ᵇ 0 then refuse 11 unless bodiesTest then 0) ≡ by-table (verdictOf t)
+  table-told : (t : Bool) → left (refuse 9 unless t then refuse 10 unless startRefusal (settingsPart b) ≡ᵇ 0 then bodies) ≡ by-table (refuse 9 unless t then 0)
   unfolding settingsRead
-  table-told true = settings-told (startRefusal (part 32 36 b))
+  table-told true = settings-told (startRefusal (settingsPart b))
   table-told false = refl
 
-  pub right-length : length b ≡ 620 → restoredBy old b ≡ by-table (tableAnswer (part 0 32 b))
-  unfolding restoredBy restoreRefusal tableAnswer
-  right-length size = ap left (refuse-passes 8 _ (eq-eqb (length b) 620 size)) ∙ table-told (sameBytes (part 0 32 b) table)
-
-  pub other-length : (length b ≡ 620 → ⊥) → restoredBy old b ≡ refusedBy 8 old
+  pub right-length : length b ≡ imageLength → restoredBy old b ≡ by-table (tableRefusal (part 0 tableLength b))
   unfolding restoredBy restoreRefusal
-  other-length h = ap left (refuse-fails 8 _ (ne-eqb (length b) 620 h))
+  right-length size = ap left (refuse-passes 8 _ (eq-eqb (length b) imageLength size)) ∙ table-told (sameBytes (part 0 tableLength b) table)
+
+  pub other-length : (length b ≡ imageLength → ⊥) → restoredBy old b ≡ refusedBy 8 old
+  unfolding restoredBy restoreRefusal
+  other-length h = ap left (refuse-fails 8 _ (ne-eqb (length b) imageLength h))

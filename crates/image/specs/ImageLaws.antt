@@ -1,52 +1,54 @@
 -- Both round trips: an allowed state's image is accepted and read back as that state; accepted bytes are the image of what is read from them, which is allowed.
-use mathlib.Core.Path.{_≡_, refl, sym, _∙_, ap, ap₂, subst}
-use mathlib.Core.Bool.{true, _&&_}
-use mathlib.Core.List.{List}
+use mathlib.Core.Path.{_≡_, refl, sym, _∙_, ap, subst}
+use mathlib.Core.List.{List, _∷_}
 use Prim.Native.Nat.{ℕ, zero, suc, _+_, _≤_}
 use native.Mathlib.Omega.{arith}
-use lib.ListN.{length, drop, length-append, length-take, length-drop}
+use lib.ListN.{length, drop, getD, length-append, length-take, length-drop}
 use borrow.Author.Tests.{eqb-true, eq-eqb}
-use Rattle.octets.specs.Bytes.{Bytes, words, numberAt}
-use Rattle.octets.specs.BytesLaws.{bytes-take, bytes-drop, length-words, numberAt-lt}
-use Rattle.octets.specs.PartsLaws.{numberAt-part}
-use Rattle.numbers.specs.Notation.{_≡ᵇ_}
-use Rattle.numbers.specs.NotationLaws.{and-true, and-left, and-right, refuse-passes, refuse-none}
+use Rattle.octets.specs.Bytes.{Bytes, row, numbersIn, total}
+use Rattle.octets.specs.BytesLaws.{bytes-take, bytes-drop}
+use Rattle.octets.specs.RowLaws.{length-row, length-numbersIn, numbersIn-row, row-numbersIn, numbersIn-fit}
+use Rattle.numbers.specs.Notation.{_≡ᵇ_, flag}
+use Rattle.numbers.specs.NotationLaws.{refuse-passes, refuse-none}
+use Rattle.numbers.specs.Answers.{answered}
+use Rattle.numbers.specs.Answers.Answered.{accepted}
+use Rattle.numbers.specs.Rules.{passes, Holds}
+use Rattle.numbers.specs.RulesLaws.{holds, passed}
 use Rattle.settings.specs.declared.Settings.{Settings}
-use Rattle.settings.specs.declared.SettingsRead.the-variants.{Read}
-use Rattle.settings.specs.Settings.{settingsBytes, settingsOf, startRefusal, answerOf, settingsRead}
-use Rattle.settings.specs.SettingsLaws.{settingsOf-settingsBytes, settingsRead-settingsBytes, read-accepted, settingsBytes-settingsRead}
+use Rattle.settings.specs.Settings.{windowLength, settingsLength, settingsBytes, settingsOf, startRefusal, settingsRead}
+use Rattle.settings.specs.SettingsLaws.{windowLength-most, settingsOf-settingsBytes, settingsRead-settingsBytes, read-accepted, settingsBytes-settingsRead}
+use Rattle.reading.specs.Layout.{tableLength, gathererWidths, valuesWidths, valuesLength, eventsWidths, eventsLength, imageLength}
+use Rattle.reading.specs.Layout.{settingsOffset, gathererOffset, valuesOffset, eventsOffset}
 use Rattle.reading.specs.Image.{table}
-use Rattle.reading.specs.Restore.{part, sameBytes, gathererGood, valuesGood, eventsGood, restoreRefusal}
+use Rattle.reading.specs.Restore.{part, sameBytes, gathererRule, wholeRule, valuesRule, eventsRule, settingsPart, gathererIn, valuesIn, eventsIn, restoreRefusal}
+use Rattle.rms.specs.Gather.{gathererRow}
 use Rattle.state.specs.declared.State.{State}
 use Rattle.state.specs.State.{stateWith, ValidState}
-use Rattle.bodies.specs.Bodies.{gathererBody, valuesBody, detectorNumbers, gathererAt, windowAt, detectorAt}
-use Rattle.bodies.specs.BodiesValid.{same-equal}
-use Rattle.bodies.specs.BodiesLaws.{length-valuesBody, length-detectorBody}
-use Rattle.bodies.specs.BodiesLaws.{GathererBack, ValuesBack, DetectorBack, gatherer-back, values-back, detector-back}
-use Rattle.bodies.specs.BodiesLaws.{GathererAgain, ValuesAgain, DetectorAgain, gatherer-good, values-good, detector-good}
-use Rattle.image.specs.declared.Acceptance.the-variants.{Accepted}
-use Rattle.image.specs.Image.{imageBytes, stateAt, refusedBy, restoredFrom, restoredBy}
+use Rattle.bodies.specs.Bodies.{detectorRow, gathererFrom, detectorFrom}
+use Rattle.bodies.specs.BodiesLaws.{same-equal, gatherer-fits, gatherer-back, gatherer-again, values-fit}
+use Rattle.bodies.specs.BodiesLaws.{Again, length-detectorRow, detector-fits, detector-back, detector-allowed, detector-again}
+use Rattle.image.specs.Image.{gathererBody, valuesBody, eventsBody, imageBytes, stateAt, refusedBy, restoredFrom, restoredBy}
 use Rattle.image.specs.SectionsLaws.{Sections, sections-are, sections-join}
 
 -- bytes with the sections of a state
 abbrev SectionsOf : State → List ℕ → Type 0
-SectionsOf st b =
-    let values = valuesBody (st .detector .count) (st .window) in
-    Sections b table (settingsBytes (st .settings)) (gathererBody (st .gatherer)) values (words (detectorNumbers (st .detector)))
+SectionsOf st b = Sections b table (settingsBytes (st .settings)) (gathererBody st) (valuesBody st) (eventsBody st)
 
--- an image is 620 bytes, in five sections
+-- the sections of an image, and their lengths
 module _ (st : State) (size : length (st .window) ≡ 120) where
-  pub length-imageBytes : length (imageBytes st) ≡ 620
+  pub values-long : length (valuesBody st) ≡ valuesLength
+  values-long = length-row valuesWidths (st .detector .count ∷ st .window) (ap suc size)
+
+  events-long : length (eventsBody st) ≡ eventsLength
+  events-long = length-row eventsWidths (detectorRow (st .detector)) (length-detectorRow (st .detector))
+
+  pub length-imageBytes : length (imageBytes st) ≡ imageLength
   unfolding imageBytes
-  length-imageBytes =
-      let events = words (detectorNumbers (st .detector)) in
-      omega (arith, length-append (words (st .window)) events, length-words (st .window), length-detectorBody (st .detector))
+  length-imageBytes = omega (arith, length-append (valuesBody st) (eventsBody st), values-long, events-long)
 
   image-sections : SectionsOf st (imageBytes st)
   unfolding imageBytes
-  image-sections =
-      sections-are (imageBytes st) table (settingsBytes (st .settings)) (gathererBody (st .gatherer)) _ _ refl refl refl refl
-      (length-valuesBody (st .detector .count) (st .window) size) (length-detectorBody (st .detector))
+  image-sections = sections-are (imageBytes st) table (settingsBytes (st .settings)) (gathererBody st) _ _ refl refl refl refl values-long events-long
 
 -- bytes that are refused
 pub restoredBy-refused : (old : State) (b : List ℕ) → (restoreRefusal b ≡ 0 → ⊥) → restoredBy old b ≡ refusedBy (restoreRefusal b) old
@@ -62,26 +64,32 @@ module _ (st : State) (valid : ValidState st) where
   abbrev saved : List ℕ
   saved = imageBytes st
 
+  abbrev n : ℕ
+  n = windowLength (st .settings)
+
+  abbrev v : ℕ
+  v = st .detector .count
+
   sections : SectionsOf st saved
   sections = image-sections st (valid .window-valid .size)
 
-  settings-is : settingsOf (part 32 36 saved) ≡ st .settings
-  settings-is = ap settingsOf (sections .settings-part) ∙ settingsOf-settingsBytes (st .settings) (valid .settings-valid)
+  settings-are : settingsOf (settingsPart saved) ≡ st .settings
+  settings-are = ap settingsOf (sections .settings-part) ∙ settingsOf-settingsBytes (st .settings) (valid .settings-valid)
 
-  gatherer-is : GathererBack (st .settings) (st .detector .count) (st .gatherer)
+  gatherer-is : gathererIn saved ≡ gathererRow (st .gatherer)
   gatherer-is =
-      gatherer-back (st .settings) (st .detector .count) (st .gatherer) (valid .settings-valid .samples-most) (valid .gatherer-valid) (valid .none-whole)
+      ap (numbersIn gathererWidths) (sections .gatherer-part)
+      ∙ numbersIn-row gathererWidths (gathererRow (st .gatherer)) (gatherer-fits (st .settings .samples) (st .gatherer) (valid .settings-valid .samples-most) (valid .gatherer-valid))
 
-  values-are : ValuesBack (st .settings) (st .detector .count) (st .window)
-  values-are = values-back (st .settings) (st .detector .count) (st .window) (valid .count-le) (valid .window-valid)
+  values-are : valuesIn saved ≡ v ∷ st .window
+  values-are = ap (numbersIn valuesWidths) (sections .values-part) ∙ numbersIn-row valuesWidths (v ∷ st .window) (values-fit n v (st .window) (valid .count-le) (valid .window-valid))
 
-  detector-is : DetectorBack (st .settings) (st .detector)
-  detector-is = detector-back (st .settings) (st .detector) (valid .count-le) (valid .detector-valid)
+  events-are : eventsIn saved ≡ detectorRow (st .detector)
+  events-are =
+      ap (numbersIn eventsWidths) (sections .events-part)
+      ∙ numbersIn-row eventsWidths (detectorRow (st .detector)) (detector-fits (st .detector) n (valid .detector-valid) (windowLength-most (st .settings)) (valid .count-le))
 
-  count-is : numberAt 92 4 saved ≡ st .detector .count
-  count-is = sym (numberAt-part 92 484 0 4 saved (omega arith)) ∙ (ap (numberAt 0 4) (sections .values-part) ∙ values-are .count-read)
-
-  start-none : startRefusal (part 32 36 saved) ≡ 0
+  start-none : startRefusal (settingsPart saved) ≡ 0
   start-none =
       ap startRefusal (sections .settings-part)
       ∙ read-accepted (settingsBytes (st .settings)) (st .settings) (settingsRead-settingsBytes (st .settings) (valid .settings-valid)) .none
@@ -89,118 +97,116 @@ module _ (st : State) (valid : ValidState st) where
   pub imageBytes-accepted : restoreRefusal (imageBytes st) ≡ 0
   unfolding restoreRefusal
   imageBytes-accepted =
-      refuse-passes 8 _ (eq-eqb (length saved) 620 (length-imageBytes st (valid .window-valid .size)))
+      refuse-passes 8 _ (eq-eqb (length saved) imageLength (length-imageBytes st (valid .window-valid .size)))
       ∙ refuse-passes 9 _ (ap (λ (l : List ℕ). sameBytes l table) (sections .contents-part))
-      ∙ refuse-passes 10 _ (eq-eqb (startRefusal (part 32 36 saved)) 0 start-none)
+      ∙ refuse-passes 10 _ (eq-eqb (startRefusal (settingsPart saved)) 0 start-none)
       ∙ refuse-passes 11 _
-      (and-true ((λ i. gathererGood (settings-is i) (count-is i) (sections .gatherer-part i)) ∙ gatherer-is .good)
-      (and-true ((λ i. valuesGood (settings-is i) (sections .values-part i)) ∙ values-are .good)
-      ((λ i. eventsGood (settings-is i) (count-is i) (sections .events-part i)) ∙ detector-is .good)))
+      ((λ i. passes (gathererRule (settings-are i .samples) (gatherer-is i))) ∙ passed (gathererRule (st .settings .samples) (gathererRow (st .gatherer))) (valid .gatherer-valid))
+      ∙ refuse-passes 11 _
+      ((λ i. passes (valuesRule (windowLength (settings-are i)) (getD (gatherer-is i) 3 0) (values-are i)))
+      ∙ passed (valuesRule n (flag (st .gatherer .whole)) (v ∷ st .window)) (valid .none-whole, valid .window-valid .allowed))
+      ∙ refuse-passes 11 _
+      ((λ i. passes (eventsRule (windowLength (settings-are i)) (getD (values-are i) 0 0) (events-are i)))
+      ∙ passed (eventsRule n v (detectorRow (st .detector))) (detector-allowed (st .detector) n (valid .detector-valid)))
 
   pub stateAt-imageBytes : stateAt (imageBytes st) ≡ st
   unfolding stateAt
   stateAt-imageBytes =
-      let gatherer : gathererAt (part 68 24 saved) ≡ st .gatherer = ap gathererAt (sections .gatherer-part) ∙ gatherer-is .read in
-      let window : windowAt (part 92 484 saved) ≡ st .window = ap windowAt (sections .values-part) ∙ values-are .window-read in
-      let detector : detectorAt (numberAt 92 4 saved) (part 576 44 saved) ≡ st .detector =
-      ap₂ detectorAt count-is (sections .events-part) ∙ detector-is .read in
-      λ i. stateWith (settings-is i) (gatherer i) (detector i) (window i)
+      (λ i. stateWith (settings-are i) (gathererFrom (gatherer-is i)) (detectorFrom (getD (values-are i) 0 0) (events-are i)) (drop 1 (values-are i)))
+      ∙ (λ i. stateWith (st .settings) (gatherer-back (st .gatherer) i) (detector-back (st .detector) i) (st .window))
 
-  pub restoredBy-saved : (old : State) → restoredBy old (imageBytes st) ≡ record { answer = Accepted; state = st }
+  pub restoredBy-saved : (old : State) → restoredBy old (imageBytes st) ≡ record { after = st; answer = accepted tt }
   unfolding restoredBy
   restoredBy-saved old = λ i. restoredFrom (imageBytes-accepted i) old (stateAt-imageBytes i)
 
 -- what accepted bytes have passed
-record Passed (b : List ℕ) (s : Settings) (v : ℕ) : Type 0 where
-  size : length b ≡ 620
-  contents : part 0 32 b ≡ table
-  start : startRefusal (part 32 36 b) ≡ 0
-  gatherer : gathererGood s v (part 68 24 b) ≡ true
-  values : valuesGood s (part 92 484 b) ≡ true
-  events : eventsGood s v (part 576 44 b) ≡ true
+record Passed (b : List ℕ) (s : Settings) : Type 0 where
+  size : length b ≡ imageLength
+  contents : part 0 tableLength b ≡ table
+  start : startRefusal (settingsPart b) ≡ 0
+  gatherer : Holds (gathererRule (s .samples) (gathererIn b))
+  values : Holds (valuesRule (windowLength s) (getD (gathererIn b) 3 0) (valuesIn b))
+  events : Holds (eventsRule (windowLength s) (getD (valuesIn b) 0 0) (eventsIn b))
 
-passed : (b : List ℕ) → restoreRefusal b ≡ 0 → Passed b (settingsOf (part 32 36 b)) (numberAt 92 4 b)
+passes-all : (b : List ℕ) → restoreRefusal b ≡ 0 → Passed b (settingsOf (settingsPart b))
 unfolding restoreRefusal
-passed b e =
-    let s = settingsOf (part 32 36 b) in
-    let v = numberAt 92 4 b in
-    let gatherer = gathererGood s v (part 68 24 b) in
-    let values = valuesGood s (part 92 484 b) in
-    let events = eventsGood s v (part 576 44 b) in
-    let r8 = refuse-none 8 (length b ≡ᵇ 620) _ (omega arith) e in
-    let r9 = refuse-none 9 (sameBytes (part 0 32 b) table) _ (omega arith) (r8 .1) in
-    let r10 = refuse-none 10 (startRefusal (part 32 36 b) ≡ᵇ 0) _ (omega arith) (r9 .1) in
-    let r11 = refuse-none 11 (gatherer && (values && events)) 0 (omega arith) (r10 .1) in
-    let late = and-right gatherer (values && events) (r11 .0) in
+passes-all b e =
+    let s = settingsOf (settingsPart b) in
+    let n = windowLength s in
+    let gatherer = gathererRule (s .samples) (gathererIn b) in
+    let values = valuesRule n (getD (gathererIn b) 3 0) (valuesIn b) in
+    let events = eventsRule n (getD (valuesIn b) 0 0) (eventsIn b) in
+    let r8 = refuse-none 8 (length b ≡ᵇ imageLength) _ (omega arith) e in
+    let r9 = refuse-none 9 (sameBytes (part 0 tableLength b) table) _ (omega arith) (r8 .1) in
+    let r10 = refuse-none 10 (startRefusal (settingsPart b) ≡ᵇ 0) _ (omega arith) (r9 .1) in
+    let r11 = refuse-none 11 (passes gatherer) _ (omega arith) (r10 .1) in
+    let r12 = refuse-none 11 (passes values) _ (omega arith) (r11 .1) in
+    let r13 = refuse-none 11 (passes events) 0 (omega arith) (r12 .1) in
     record {
-      size = eqb-true (length b) 620 (r8 .0);
-      contents = same-equal (part 0 32 b) table (r9 .0);
-      start = eqb-true (startRefusal (part 32 36 b)) 0 (r10 .0);
-      gatherer = and-left gatherer (values && events) (r11 .0);
-      values = and-left values events late;
-      events = and-right values events late;
+      size = eqb-true (length b) imageLength (r8 .0);
+      contents = same-equal (part 0 tableLength b) table (r9 .0);
+      start = eqb-true (startRefusal (settingsPart b)) 0 (r10 .0);
+      gatherer = holds gatherer (r11 .0);
+      values = holds values (r12 .0);
+      events = holds events (r13 .0);
     }
 
 -- bytes → state → bytes
-module _ (b : List ℕ) (are : Bytes b) (accepted : restoreRefusal b ≡ 0) where
+module _ (b : List ℕ) (are : Bytes b) (accepted-b : restoreRefusal b ≡ 0) where
   abbrev s : Settings
-  s = settingsOf (part 32 36 b)
+  s = settingsOf (settingsPart b)
 
-  abbrev v : ℕ
-  v = numberAt 92 4 b
-
-  ok : Passed b s v
-  ok = passed b accepted
+  ok : Passed b s
+  ok = passes-all b accepted-b
 
   part-bytes : (offset n : ℕ) → Bytes (part offset n b)
   part-bytes offset n = bytes-take n (drop offset b) (bytes-drop offset b are)
 
-  part-size : (offset n : ℕ) → offset + n ≤ 620 → length (part offset n b) ≡ n
+  part-size : (offset n : ℕ) → offset + n ≤ imageLength → length (part offset n b) ≡ n
   part-size offset n h = simp (length-take, length-drop) (omega (arith, ok .size))
 
-  settings-read : settingsRead (part 32 36 b) ≡ Read s
+  settings-read : settingsRead (settingsPart b) ≡ accepted s
   unfolding settingsRead
-  settings-read = ap (λ (n : ℕ). answerOf n s) (ok .start)
+  settings-read = ap (λ (n : ℕ). answered n s) (ok .start)
 
-  gatherer-again : GathererAgain s v (part 68 24 b)
-  gatherer-again = gatherer-good s v (part 68 24 b) (part-bytes 68 24) (part-size 68 24 (omega arith)) (ok .gatherer)
+  -- the mark is 0 or 1
+  gatherer-row : gathererRow (gathererFrom (gathererIn b)) ≡ gathererIn b
+  gatherer-row = gatherer-again _ _ _ _ (ok .gatherer .1 .1 .1 .0)
 
-  values-again : ValuesAgain s v (part 92 484 b)
-  values-again =
-      subst (λ (n : ℕ). ValuesAgain s n (part 92 484 b)) (numberAt-part 92 484 0 4 b (omega arith))
-      (values-good s (part 92 484 b) (part-bytes 92 484) (part-size 92 484 (omega arith)) (ok .values))
-
-  detector-again : DetectorAgain s v (part 576 44 b)
-  detector-again = detector-good s v (part 576 44 b) (part-bytes 576 44) (part-size 576 44 (omega arith)) (ok .events)
+  detector-row : Again (windowLength s) (getD (valuesIn b) 0 0) (eventsIn b)
+  detector-row = detector-again _ _ _ _ _ _ _ (ok .events)
 
   pub stateAt-valid : ValidState (stateAt b)
   unfolding stateAt
   stateAt-valid = record {
-    settings-valid = read-accepted (part 32 36 b) s settings-read .valid;
-    gatherer-valid = gatherer-again .valid;
-    detector-valid = detector-again .valid;
-    window-valid = values-again .valid;
-    count-le = let h = numberAt-lt b are 92 4 in omega arith;
-    none-whole = gatherer-again .none-whole;
+    settings-valid = read-accepted (settingsPart b) s settings-read .valid;
+    gatherer-valid = subst (λ (ns : List ℕ). Holds (gathererRule (s .samples) ns)) (sym gatherer-row) (ok .gatherer);
+    detector-valid = detector-row .valid;
+    window-valid = record { size = length-numbersIn (drop 1 valuesWidths) (drop 4 (part valuesOffset valuesLength b)); allowed = ok .values .1 };
+    count-le = let h = numbersIn-fit valuesWidths (part valuesOffset valuesLength b) (part-bytes valuesOffset valuesLength) .0 in omega arith;
+    none-whole = subst (λ (ns : List ℕ). Holds (wholeRule (getD ns 3 0) (getD (valuesIn b) 0 0))) (sym gatherer-row) (ok .values .0);
   }
 
   pub imageBytes-stateAt : imageBytes (stateAt b) ≡ b
   unfolding imageBytes stateAt
   imageBytes-stateAt =
-      sections-join b table (settingsBytes s) (gathererBody (gathererAt (part 68 24 b))) _ _ (ok .size)
+      sections-join b table (settingsBytes s) _ _ _ (ok .size)
       (record {
         contents-part = ok .contents;
-        settings-part = sym (settingsBytes-settingsRead (part 32 36 b) (part-bytes 32 36) s settings-read);
-        gatherer-part = sym (gatherer-again .written);
-        values-part = sym (values-again .written);
-        events-part = sym (detector-again .written);
+        settings-part = sym (settingsBytes-settingsRead (settingsPart b) (part-bytes settingsOffset settingsLength) s settings-read);
+        gatherer-part = sym (ap (row gathererWidths) gatherer-row ∙ again gathererOffset gathererWidths (omega arith));
+        values-part = sym (again valuesOffset valuesWidths (omega arith));
+        events-part = sym (ap (row eventsWidths) (detector-row .written) ∙ again eventsOffset eventsWidths (omega arith));
       })
+    where
+      again : (o : ℕ) (ws : List ℕ) → o + total ws ≤ imageLength → row ws (numbersIn ws (part o (total ws) b)) ≡ part o (total ws) b
+      again o ws h = row-numbersIn ws (part o (total ws) b) (part-bytes o (total ws)) (part-size o (total ws) h)
 
 -- a restore leaves a valid state valid
-pub restoredBy-valid : (old : State) (b : List ℕ) → Bytes b → ValidState old → ValidState (restoredBy old b .state)
+pub restoredBy-valid : (old : State) (b : List ℕ) → Bytes b → ValidState old → ValidState (restoredBy old b .after)
 unfolding restoredBy
 restoredBy-valid old b are valid = by-number (restoreRefusal b) refl
   where
-    by-number : (n : ℕ) → restoreRefusal b ≡ n → ValidState (restoredFrom n old (stateAt b) .state)
+    by-number : (n : ℕ) → restoreRefusal b ≡ n → ValidState (restoredFrom n old (stateAt b) .after)
     by-number zero e = stateAt-valid b are e
     by-number (suc n) e = valid

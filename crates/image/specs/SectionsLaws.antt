@@ -1,42 +1,54 @@
--- The five sections of 620 bytes: what stands in each part of sections that are put together, and parts that are put together again.
-use mathlib.Core.Path.{_≡_, sym, _∙_, ap}
+-- The five sections of an image: what stands in each part of sections that are put together, and parts that are put together again.
+use mathlib.Core.Path.{_≡_, sym, _∙_, ap, ap₂}
 use mathlib.Core.List.{List, _++_}
-use Prim.Native.Nat.{ℕ}
+use Prim.Native.Nat.{ℕ, _+_}
 use native.Mathlib.Omega.{arith}
-use lib.ListN.{length, take}
-use lib.Seq.{take-at, take-all}
-use Rattle.octets.specs.BytesLaws.{drop-past}
+use lib.ListN.{length, take, drop, take-append-drop, length-drop}
+use lib.Seq.{take-at, take-all, drop-at, drop-drop}
 use Rattle.reading.specs.Restore.{part}
-use Rattle.bodies.specs.BodiesLaws.{part-last, part-join}
+use Rattle.reading.specs.Layout.{tableLength, settingsOffset, gathererOffset, gathererLength, valuesOffset, valuesLength, eventsOffset, eventsLength, imageLength}
+use Rattle.settings.specs.Settings.{settingsLength}
+
+-- parts of a list, put together again from the last on
+module _ (b : List ℕ) (o n : ℕ) (x : List ℕ) (is : x ≡ take n (drop o b)) where
+  part-last : length b ≡ o + n → x ≡ drop o b
+  part-last l = is ∙ take-all n (drop o b) (simp length-drop (omega arith))
+
+  part-join : (y : List ℕ) → y ≡ drop (o + n) b → x ++ y ≡ drop o b
+  part-join y e = ap₂ _++_ is (e ∙ sym (drop-drop n o b)) ∙ take-append-drop n (drop o b)
+
+-- what stands behind a part of known length
+drop-past : (b : List ℕ) (o k : ℕ) (p r : List ℕ) → drop o b ≡ p ++ r → length p ≡ k → drop (o + k) b ≡ r
+drop-past b o k p r e l = sym (drop-drop k o b) ∙ (ap (drop k) e ∙ drop-at p r k l)
 
 pub record Sections (b contents settings gatherer values events : List ℕ) : Type 0 where
-  pub contents-part : part 0 32 b ≡ contents
-  pub settings-part : part 32 36 b ≡ settings
-  pub gatherer-part : part 68 24 b ≡ gatherer
-  pub values-part : part 92 484 b ≡ values
-  pub events-part : part 576 44 b ≡ events
+  pub contents-part : part 0 tableLength b ≡ contents
+  pub settings-part : part settingsOffset settingsLength b ≡ settings
+  pub gatherer-part : part gathererOffset gathererLength b ≡ gatherer
+  pub values-part : part valuesOffset valuesLength b ≡ values
+  pub events-part : part eventsOffset eventsLength b ≡ events
 
 module _ (b contents settings gatherer values events : List ℕ) where
   pub sections-are : b ≡ contents ++ (settings ++ (gatherer ++ (values ++ events))) →
-      length contents ≡ 32 → length settings ≡ 36 → length gatherer ≡ 24 → length values ≡ 484 → length events ≡ 44 →
+      length contents ≡ tableLength → length settings ≡ settingsLength → length gatherer ≡ gathererLength → length values ≡ valuesLength → length events ≡ eventsLength →
       Sections b contents settings gatherer values events
   sections-are e c s g v l =
-      let d32 = drop-past b 0 32 contents (settings ++ (gatherer ++ (values ++ events))) e c in
-      let d68 = drop-past b 32 36 settings (gatherer ++ (values ++ events)) d32 s in
-      let d92 = drop-past b 68 24 gatherer (values ++ events) d68 g in
-      let d576 = drop-past b 92 484 values events d92 v in
+      let behind-table = drop-past b 0 tableLength contents (settings ++ (gatherer ++ (values ++ events))) e c in
+      let behind-settings = drop-past b settingsOffset settingsLength settings (gatherer ++ (values ++ events)) behind-table s in
+      let behind-gatherer = drop-past b gathererOffset gathererLength gatherer (values ++ events) behind-settings g in
+      let behind-values = drop-past b valuesOffset valuesLength values events behind-gatherer v in
       record {
-        contents-part = ap (take 32) e ∙ take-at contents _ 32 c;
-        settings-part = ap (take 36) d32 ∙ take-at settings _ 36 s;
-        gatherer-part = ap (take 24) d68 ∙ take-at gatherer _ 24 g;
-        values-part = ap (take 484) d92 ∙ take-at values _ 484 v;
-        events-part = ap (take 44) d576 ∙ take-all 44 events (omega arith);
+        contents-part = ap (take tableLength) e ∙ take-at contents _ tableLength c;
+        settings-part = ap (take settingsLength) behind-table ∙ take-at settings _ settingsLength s;
+        gatherer-part = ap (take gathererLength) behind-settings ∙ take-at gatherer _ gathererLength g;
+        values-part = ap (take valuesLength) behind-gatherer ∙ take-at values _ valuesLength v;
+        events-part = ap (take eventsLength) behind-values ∙ take-all eventsLength events (omega arith);
       }
 
-  pub sections-join : length b ≡ 620 → Sections b contents settings gatherer values events → contents ++ (settings ++ (gatherer ++ (values ++ events))) ≡ b
+  pub sections-join : length b ≡ imageLength → Sections b contents settings gatherer values events → contents ++ (settings ++ (gatherer ++ (values ++ events))) ≡ b
   sections-join l p =
-      let e576 = part-last b 576 44 events (sym (p .events-part)) l in
-      let e92 = part-join b 92 484 values (sym (p .values-part)) events e576 in
-      let e68 = part-join b 68 24 gatherer (sym (p .gatherer-part)) _ e92 in
-      let e32 = part-join b 32 36 settings (sym (p .settings-part)) _ e68 in
-      part-join b 0 32 contents (sym (p .contents-part)) _ e32
+      let from-events = part-last b eventsOffset eventsLength events (sym (p .events-part)) l in
+      let from-values = part-join b valuesOffset valuesLength values (sym (p .values-part)) events from-events in
+      let from-gatherer = part-join b gathererOffset gathererLength gatherer (sym (p .gatherer-part)) _ from-values in
+      let from-settings = part-join b settingsOffset settingsLength settings (sym (p .settings-part)) _ from-gatherer in
+      part-join b 0 tableLength contents (sym (p .contents-part)) _ from-settings

@@ -1,14 +1,17 @@
 // The image of a logger's state: a table of contents and four bodies, each in its own part.
 use bodies::DetectorRead;
+use bodies::EVENTS_AT;
+use bodies::GATHERER_AT;
 use bodies::GathererRead;
+use bodies::IMAGE_LENGTH;
+use bodies::SETTINGS_AT;
+use bodies::VALUES_AT;
 use bodies::Verdict;
 use settings::Settings;
 use settings::SettingsRead;
 use state::State;
 ghost use mathlib.Core.Path.{_≡_};
-ghost use Rattle.image.specs.Image.{saveAnswer, savedBytes, refusedBy, restoredBy};
-
-pub const IMAGE_LENGTH: usize = 620;
+ghost use Rattle.image.specs.Image.{saveAnswer, savedBytes, restoredTo, refusedBy, restoredBy};
 
 // Restore's answer: accepted, or 01's number of the refusal.
 pub enum Acceptance {
@@ -22,7 +25,7 @@ pub struct Restored {
     pub state: State,
 }
 
-// Writes the image into the first 620 bytes. 0, or 7 where the buffer is shorter, and then it stays as it was.
+// Writes the image into the first bytes of a buffer. 0, or 7 where the buffer is shorter, and then it stays as it was.
 pub fn save(state: State, image: &mut [u8]) -> u32
     ensures { λ r. ⌜ (r ≡ saveAnswer (now (image .entry))) × (now (image .exit) ≡ savedBytes state (now (image .entry))) ⌝ }
 {
@@ -32,16 +35,20 @@ pub fn save(state: State, image: &mut [u8]) -> u32
     let settings = state.settings;
     let gatherer = state.gatherer;
     let detector = state.detector;
-    bodies::put_table(&mut image[0..32]);
-    settings.write(&mut image[32..68]);
-    bodies::put_gatherer(&mut image[68..92], gatherer);
-    bodies::put_values(&mut image[92..576], detector.count, &state.window);
-    bodies::put_detector(&mut image[576..620], detector);
+    bodies::put_table(&mut image[0..SETTINGS_AT]);
+    settings.write(&mut image[SETTINGS_AT..GATHERER_AT]);
+    bodies::put_gatherer(&mut image[GATHERER_AT..VALUES_AT], gatherer);
+    bodies::put_values(
+        &mut image[VALUES_AT..EVENTS_AT],
+        detector.count,
+        &state.window,
+    );
+    bodies::put_detector(&mut image[EVENTS_AT..IMAGE_LENGTH], detector);
     0
 }
 
 fn refused(old: State, number: u32) -> Restored
-    ensures { λ r. ⌜ r ≡ refusedBy number old ⌝ }
+    ensures { λ r. ⌜ restoredTo (r .state) (r .answer) ≡ refusedBy number old ⌝ }
 {
     Restored {
         answer: Acceptance::Refused(number),
@@ -51,30 +58,35 @@ fn refused(old: State, number: u32) -> Restored
 
 // Each section is taken only if the one before it was good; on refusal the old state remains.
 pub fn restore(old: State, bytes: &[u8]) -> Restored
-    ensures { λ r. ⌜ r ≡ restoredBy old (now (bytes .entry)) ⌝ }
+    ensures { λ r. ⌜ restoredTo (r .state) (r .answer) ≡ restoredBy old (now (bytes .entry)) ⌝ }
 {
     if bytes.len() != IMAGE_LENGTH {
         return refused(old, 8);
     }
-    let Verdict::Good = bodies::read_table(&bytes[0..32]) else {
+    let Verdict::Good = bodies::read_table(&bytes[0..SETTINGS_AT]) else {
         return refused(old, 9);
     };
-    let SettingsRead::Read(settings) = Settings::from_bytes(&bytes[32..68]) else {
+    let SettingsRead::Read(settings) = Settings::from_bytes(&bytes[SETTINGS_AT..GATHERER_AT]) else {
         return refused(old, 10);
     };
-    let values = octets::get_u32(bytes, 92) as u64;
-    let GathererRead::Read(gatherer) = bodies::read_gatherer(&bytes[68..92], settings, values)
-    else {
+    let GathererRead::Read(gatherer) = bodies::read_gatherer(
+        &bytes[GATHERER_AT..VALUES_AT],
+        settings,
+    ) else {
         return refused(old, 11);
     };
-    let read = bodies::read_window(&bytes[92..576], settings);
+    let read = bodies::read_window(&bytes[VALUES_AT..EVENTS_AT], settings, gatherer.whole);
     let verdict = read.verdict;
+    let values = read.count;
     let window = read.window;
     let Verdict::Good = verdict else {
         return refused(old, 11);
     };
-    let DetectorRead::Read(detector) = bodies::read_detector(&bytes[576..620], settings, values)
-    else {
+    let DetectorRead::Read(detector) = bodies::read_detector(
+        &bytes[EVENTS_AT..IMAGE_LENGTH],
+        settings,
+        values,
+    ) else {
         return refused(old, 11);
     };
     Restored {

@@ -1,5 +1,6 @@
 // Restores each image of a file of vectors, and prints 01's number for it, 0 where it is accepted. The file has a good image, then changes to it of 14 bytes each
 // (outside/image_vectors.py).
+use bodies::IMAGE_LENGTH;
 use detection::Detector;
 use image::Acceptance;
 use libc::STDIN_FILENO;
@@ -10,6 +11,7 @@ use state::State;
 ghost use mathlib.Core.Path.{_≡_};
 ghost use Prim.Native.Nat.{_≤_};
 ghost use lib.ListN.{length};
+ghost use Rattle.reading.specs.Layout.{imageLength};
 
 // A state to restore from: restore asks nothing of it.
 fn blank() -> State {
@@ -64,7 +66,7 @@ fn put_byte(image: &mut [u8], at: usize, byte: u8)
 
 // Writes the first bytes at an offset.
 fn change(image: &mut [u8], offset: usize, width: usize, bytes: &[u8])
-    requires { ⌜ (offset ≤ 65535) × (width ≤ length (now bytes)) × (length (now bytes) ≤ 620) ⌝ }
+    requires { ⌜ (offset ≤ 65535) × (width ≤ length (now bytes)) × (length (now bytes) ≤ imageLength) ⌝ }
 {
     let mut i = 0;
     while i < width {
@@ -80,7 +82,7 @@ fn print(number: u64) {
 
 // One vector: the image's length, an offset, how many bytes change there (128 more where further changes follow), and up to 8 bytes.
 fn try_vector(good: &[u8], image: &mut [u8], vector: &[u8])
-    requires { ⌜ (length (now good) ≡ 620) × (length (now vector) ≡ 14) ⌝ }
+    requires { ⌜ (length (now good) ≡ imageLength) × (length (now vector) ≡ 14) ⌝ }
 {
     let length = octets::get_u16(vector, 0) as usize;
     let offset = octets::get_u16(vector, 2) as usize;
@@ -88,15 +90,15 @@ fn try_vector(good: &[u8], image: &mut [u8], vector: &[u8])
     change(image, offset, width % 16 % 9, &vector[6..14]);
     if width < 128 {
         print(refusal_of(image, length));
-        change(image, 0, 620, good);
+        change(image, 0, IMAGE_LENGTH, good);
     }
 }
 
 fn main() {
-    let mut good = [0u8; 620];
+    let mut good = [0u8; IMAGE_LENGTH];
     io::read_full(STDIN_FILENO, &mut good);
-    let mut image = [0u8; 640];
-    change(&mut image, 0, 620, &good);
+    let mut image = [0u8; IMAGE_LENGTH + 20];
+    change(&mut image, 0, IMAGE_LENGTH, &good);
     let mut vector = [0u8; 14];
     let mut left: u32 = 100_000;
     while 0 < left {

@@ -3,17 +3,24 @@ use image::Acceptance;
 use reading::Readings;
 use reading::Told;
 use settings::Settings;
+use settings::SettingsRead;
 use state::State;
 ghost use mathlib.Core.Path.{_≡_};
 ghost use Rattle.settings.specs.Settings.{ValidSettings};
-ghost use Rattle.state.specs.State.{fresh, readingsOf, ValidState};
-ghost use Rattle.state.specs.Calls.{fedWith};
-ghost use Rattle.image.specs.Image.{saveAnswer, savedBytes, restoredBy};
-ghost use Rattle.logger.specs.Logger.{fedTo, restoredTo};
+ghost use Rattle.state.specs.State.{fresh as freshOf, ValidState};
+ghost use Rattle.image.specs.Image.{restoredTo};
+ghost use Rattle.logger.specs.Logger.{startedTold, YieldedValid, fedTo, savedTo};
+ghost use Rattle.logger.specs.Calls.{loggerCalls};
 
-// A logger. Start and restore alone make one, and each call keeps it valid.
+// A logger. Start, fresh and restore alone make one, and each call keeps it valid.
 pub struct Logger {
     state: State,
+}
+
+// What start yields, or tells.
+pub enum Started {
+    Yielded(Logger),
+    Refused(u32),
 }
 
 // What feed leaves and tells.
@@ -29,10 +36,20 @@ pub struct Resumed {
 }
 
 impl Logger {
-    // A fresh logger.
-    pub fn start(settings: Settings) -> Logger
+    // A fresh logger from settings bytes; or the refusal, and no logger.
+    pub fn start(bytes: &[u8]) -> Started
+        ensures { λ r. ⌜ (startedTold r ≡ loggerCalls .start (now (bytes .entry))) × YieldedValid r ⌝ }
+    {
+        match Settings::from_bytes(bytes) {
+            SettingsRead::Read(settings) => Started::Yielded(Logger::fresh(settings)),
+            SettingsRead::Refused(number) => Started::Refused(number),
+        }
+    }
+
+    // A logger that has taken no sample, of settings that were read.
+    pub fn fresh(settings: Settings) -> Logger
         requires { ⌜ ValidSettings settings ⌝ }
-        ensures { λ r. ⌜ (r .state ≡ fresh settings) × ValidState (r .state) ⌝ }
+        ensures { λ r. ⌜ (r .state ≡ freshOf settings) × ValidState (r .state) ⌝ }
     {
         let state = State::fresh(settings);
         Logger { state }
@@ -41,7 +58,7 @@ impl Logger {
     // The greatest number of the block's samples that 01 allows, and their records.
     pub fn feed(self, block: &[i16], records: &mut [u8]) -> Fed
         requires { ⌜ ValidState (self .state) ⌝ }
-        ensures { λ r. ⌜ (fedTo (r .logger .state) (r .told) (now (records .exit)) ≡ fedWith (self .state) (now (block .entry)) (now (records .entry)))
+        ensures { λ r. ⌜ (fedTo (r .logger .state) (r .told) (now (records .exit)) ≡ loggerCalls .feed (self .state) (now (block .entry)) (now (records .entry)))
             × ValidState (r .logger .state) ⌝ }
     {
         let settings = self.state.settings;
@@ -68,15 +85,15 @@ impl Logger {
     // What look tells.
     pub fn look(self) -> Readings
         requires { ⌜ ValidState (self .state) ⌝ }
-        ensures { λ r. ⌜ r ≡ readingsOf (self .state) ⌝ }
+        ensures { λ r. ⌜ r ≡ loggerCalls .look (self .state) ⌝ }
     {
         let state = self.state;
         state.look()
     }
 
-    // Writes the logger's image into the first 620 bytes. 0, or 7 where the buffer is shorter, and then it stays as it was.
+    // Writes the logger's image into the first bytes of a buffer. 0, or 7 where the buffer is shorter, and then it stays as it was.
     pub fn save(self, image: &mut [u8]) -> u32
-        ensures { λ r. ⌜ (r ≡ saveAnswer (now (image .entry))) × (now (image .exit) ≡ savedBytes (self .state) (now (image .entry))) ⌝ }
+        ensures { λ r. ⌜ savedTo r (now (image .exit)) ≡ loggerCalls .save (self .state) (now (image .entry)) ⌝ }
     {
         image::save(self.state, image)
     }
@@ -84,7 +101,7 @@ impl Logger {
     // The logger of an image; on refusal the old one remains.
     pub fn restore(self, bytes: &[u8]) -> Resumed
         requires { ⌜ ValidState (self .state) ⌝ }
-        ensures { λ r. ⌜ (restoredTo (r .logger .state) (r .answer) ≡ restoredBy (self .state) (now (bytes .entry))) × ValidState (r .logger .state) ⌝ }
+        ensures { λ r. ⌜ (restoredTo (r .logger .state) (r .answer) ≡ loggerCalls .restore (self .state) (now (bytes .entry))) × ValidState (r .logger .state) ⌝ }
     {
         let old = self.state;
         let restored = image::restore(old, bytes);

@@ -19,6 +19,11 @@ abbrev pub if_then_else_ {ℓ} : {A : Type ℓ} → Bool → A → A → A
 if true then a else b = a
 if false then a else b = b
 
+-- 1 for yes, 0 for no
+abbrev pub flag : Bool → ℕ
+flag true = 1
+flag false = 0
+
 -- every number of a list passes a test
 abbrev pub all : (ℕ → Bool) → List ℕ → Bool
 all test [] = true

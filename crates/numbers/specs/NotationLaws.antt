@@ -1,9 +1,9 @@
--- The laws of the notation: what conjunctions and disjunctions of tests say, and what a chain of refusals answers.
+-- The laws of the notation: what conjunctions and disjunctions of tests say, a mark both ways, and what a chain of refusals answers.
 use mathlib.Core.Path.{_≡_, refl, ap}
 use mathlib.Core.Bool.{Bool, true, false, not, _&&_, _||_}
-use Prim.Native.Nat.{ℕ, _<_}
+use Prim.Native.Nat.{ℕ, zero, suc, _≤_, _<_}
 use native.Mathlib.Omega.{arith}
-use Rattle.numbers.specs.Notation.{refuse_unless_then_}
+use Rattle.numbers.specs.Notation.{_≡ᵇ_, flag, refuse_unless_then_}
 
 pub and-true : {a b : Bool} → a ≡ true → b ≡ true → (a && b) ≡ true
 and-true p q = λ i. p i && q i
@@ -37,6 +37,24 @@ implied false b e p = let z : _≡_ {A = ℕ} 0 1 = cc in absurd (omega arith)
 pub imply : (a b : Bool) → (a ≡ true → b ≡ true) → (not a || b) ≡ true
 imply true b f = f refl
 imply false b f = refl
+
+-- a mark both ways
+pub flag-most : (b : Bool) → flag b ≤ 1
+flag-most true = omega arith
+flag-most false = omega arith
+
+pub flag-none : (b : Bool) → flag b ≡ 0 → b ≡ false
+flag-none true e = absurd (omega arith)
+flag-none false e = refl
+
+pub flag-back : (b : Bool) → (flag b ≡ᵇ 1) ≡ b
+flag-back true = refl
+flag-back false = refl
+
+pub back-flag : (x : ℕ) → x ≤ 1 → flag (x ≡ᵇ 1) ≡ x
+back-flag zero h = refl
+back-flag (suc zero) h = refl
+back-flag (suc (suc x)) h = absurd (omega arith)
 
 -- a test that fails gives its refusal, and one that passes gives the rest
 pub refuse-fails : (n : ℕ) {t : Bool} (rest : ℕ) → t ≡ false → (refuse n unless t then rest) ≡ n

@@ -1,7 +1,7 @@
 -- Numbers as bytes. 01: stored numbers are little-endian and unsigned.
 use mathlib.Core.List.{List, [], _∷_, _++_}
-use Prim.Native.Nat.{ℕ, zero, suc, _+_, _*_, _/_, _%_, _<_}
-use lib.ListN.{take, drop}
+use Prim.Native.Nat.{ℕ, zero, suc, _+_, _*_, _/_, _%_, _≤_, _<_}
+use lib.ListN.{length, take, drop, replicate}
 
 -- a list of bytes
 abbrev pub Bytes : List ℕ → Type 0
@@ -18,16 +18,27 @@ abbrev pub numberOf : List ℕ → ℕ
 numberOf [] = 0
 numberOf (b ∷ bs) = b + 256 * numberOf bs
 
--- numbers of 4 bytes, one behind the other
-abbrev pub words : List ℕ → List ℕ
-words [] = []
-words (x ∷ xs) = bytesOf 4 x ++ words xs
+-- a row: numbers of given widths, one behind the other
+abbrev pub row : List ℕ → List ℕ → List ℕ
+row [] ns = []
+row (w ∷ ws) [] = []
+row (w ∷ ws) (n ∷ ns) = bytesOf w n ++ row ws ns
 
--- the number of w bytes at an offset
-abbrev pub numberAt : ℕ → ℕ → List ℕ → ℕ
-numberAt offset w bytes = numberOf (take w (drop offset bytes))
+-- the numbers of given widths that bytes are
+abbrev pub numbersIn : List ℕ → List ℕ → List ℕ
+numbersIn [] b = []
+numbersIn (w ∷ ws) b = numberOf (take w b) ∷ numbersIn ws (drop w b)
 
--- c numbers of 4 bytes from an offset on
-abbrev pub wordsAt : ℕ → ℕ → List ℕ → List ℕ
-wordsAt offset zero bytes = []
-wordsAt offset (suc c) bytes = numberAt offset 4 bytes ∷ wordsAt (offset + 4) c bytes
+-- how many bytes a row of given widths has
+abbrev pub total : List ℕ → ℕ
+total [] = 0
+total (w ∷ ws) = w + total ws
+
+-- widths of at most 8 bytes
+abbrev pub Narrow : List ℕ → Type 0
+Narrow [] = Unit {0}
+Narrow (w ∷ ws) = (w ≤ 8) × Narrow ws
+
+-- as many widths of 4 bytes as there are numbers
+abbrev pub fours : List ℕ → List ℕ
+fours ns = replicate (length ns) 4

@@ -1,3 +1,4 @@
 pub mod Bytes
 pub mod BytesLaws
+pub mod RowLaws
 pub mod PartsLaws

@@ -8,14 +8,17 @@ use lib.Seq.{sets}
 use lib.IntN.{ℤ, pos, negsuc}
 use Rattle.octets.specs.Bytes.{bytesOf}
 use Rattle.settings.specs.declared.Settings.{Settings}
-use Rattle.settings.specs.Settings.{settingsRefusal}
+use Rattle.settings.specs.Settings.{settingsLength, settingsRefusal}
 use Rattle.reading.specs.declared.Event.{Event}
 use Rattle.reading.specs.Values.{values}
+use Rattle.reading.specs.Layout.{recordLength, gathererLength, valuesLength, eventsLength, imageLength, replyLength}
+use Rattle.reading.specs.Layout.{settingsOffset, gathererOffset, valuesOffset, eventsOffset}
 use Rattle.reading.specs.Records.{events, recordBytes}
 use Rattle.reading.specs.Image.{imageOf}
 use Rattle.reading.specs.Restore.{restoreRefusal}
-use Rattle.reading.specs.Feed.{taken, why}
-use Rattle.reading.specs.Engineer.{readings}
+use Rattle.reading.specs.Engineer.{readings, emptyDesk, answer}
+use Rattle.reading.specs.Engineer.Call.{feed}
+use Rattle.reading.specs.Engineer.Answer.{fed}
 
 -- 01's settings Q, with an M, a T and an H
 abbrev pub qWith : ℕ → ℕ → ℕ → Settings
@@ -135,12 +138,16 @@ pub record BenchReadings : Type 0 where
   -- in a change T − H is in force: a voltage that is calm under T only does not end it, unless H is 0
   pub restless-goes-on : recordsOf q restless ≡ []
   pub restless-without-H : recordsOf (qWith 8 300 0) restless ≡ record { kind = 4; start = 151; duration = 1; first = 9552; second = 6256 } ∷ []
-  -- the program's samples: dip 3, 3, 800, 0 and V 7, and the record's bytes; with no record room 55 taken, why 1
+  -- the program's samples: dip 3, 3, 800, 0 and V 7, and the record's bytes; fed with no record room: 55 taken, why 1
   pub program-record : recordsOf q program ≡ record { kind = 1; start = 3; duration = 3; first = 800; second = 0 } ∷ []
   pub program-bytes : recordBytes (recordsOf q program) ≡ 1 ∷ 0 ∷ 0 ∷ 0 ∷ 3 ∷ 0 ∷ 0 ∷ 0 ∷ 3 ∷ 0 ∷ 0 ∷ 0 ∷ 32 ∷ 3 ∷ 0 ∷ 0 ∷ 0 ∷ 0 ∷ 0 ∷ 0 ∷ []
   pub program-count : length (values q program) ≡ 7
-  pub program-taken : taken q [] program 0 ≡ 55
-  pub program-why : why q [] program 55 ≡ 1
+  pub program-without-room : answer q emptyDesk (feed program []) ≡ fed (record { taken = 55; written = 0; why = 1 }) []
+  -- a record, the settings, the image and the reply: 20, 36, 620 and 24 bytes; offset and length of each body
+  pub lengths : recordLength ∷ settingsLength ∷ imageLength ∷ replyLength ∷ [] ≡ 20 ∷ 36 ∷ 620 ∷ 24 ∷ []
+  pub sections :
+      settingsOffset ∷ settingsLength ∷ gathererOffset ∷ gathererLength ∷ valuesOffset ∷ valuesLength ∷ eventsOffset ∷ eventsLength ∷ []
+      ≡ 32 ∷ 36 ∷ 68 ∷ 24 ∷ 92 ∷ 484 ∷ 576 ∷ 44 ∷ []
   -- a whole image in a change with a dip standing, byte by byte; what restore refuses one rule away from it, and what it accepts beside that
   pub changing-image : imageOf q changing ≡ changingImage
   pub changing-accepted : restoreRefusal changingImage ≡ 0

@@ -6,7 +6,7 @@ use lib.ListN.{length, take, replicate}
 use Rattle.settings.specs.Settings.{startRefusal, settingsRefusal, samplesGood, frequencyGood, declaredGood, limitGood, levelsGood, orderGood}
 use Rattle.reading.specs.Values.{root, values}
 use Rattle.reading.specs.Image.{imageOf}
-use Rattle.reading.specs.Restore.{restoreRefusal, gathererGood, valuesGood, changeGood, standingGood, eventsGood}
+use Rattle.reading.specs.Restore.{restoreRefusal}
 use Rattle.reading.specs.Bench.{BenchReadings, q, qWith, repeated, change, restless, changing, changingImage, changed, refusals, settingsOut, settingsIn, bodiesOut, bodiesIn, recordsOf}
 
 q-is-accepted : settingsRefusal q ≡ 0
@@ -48,31 +48,31 @@ changing-image-is = refl
 
 -- the refusals, with every test opened
 changing-is-accepted : restoreRefusal changingImage ≡ 0
-unfolding restoreRefusal startRefusal settingsRefusal samplesGood frequencyGood declaredGood limitGood levelsGood orderGood gathererGood valuesGood changeGood standingGood eventsGood
+unfolding restoreRefusal startRefusal settingsRefusal samplesGood frequencyGood declaredGood limitGood levelsGood orderGood
 changing-is-accepted = refl
 
 lengths-are-refused : refusals ([] ∷ take 619 changingImage ∷ (changingImage ++ (0 ∷ [])) ∷ []) ≡ 8 ∷ 8 ∷ 8 ∷ []
-unfolding restoreRefusal startRefusal settingsRefusal samplesGood frequencyGood declaredGood limitGood levelsGood orderGood gathererGood valuesGood changeGood standingGood eventsGood
+unfolding restoreRefusal startRefusal settingsRefusal samplesGood frequencyGood declaredGood limitGood levelsGood orderGood
 lengths-are-refused = refl
 
 table-is-refused : refusals (changed 0 4 2 ∷ changed 4 2 33 ∷ changed 30 2 45 ∷ []) ≡ 9 ∷ 9 ∷ 9 ∷ []
-unfolding restoreRefusal startRefusal settingsRefusal samplesGood frequencyGood declaredGood limitGood levelsGood orderGood gathererGood valuesGood changeGood standingGood eventsGood
+unfolding restoreRefusal startRefusal settingsRefusal samplesGood frequencyGood declaredGood limitGood levelsGood orderGood
 table-is-refused = refl
 
 settings-are-refused : refusals settingsOut ≡ replicate 9 10
-unfolding restoreRefusal startRefusal settingsRefusal samplesGood frequencyGood declaredGood limitGood levelsGood orderGood gathererGood valuesGood changeGood standingGood eventsGood
+unfolding restoreRefusal startRefusal settingsRefusal samplesGood frequencyGood declaredGood limitGood levelsGood orderGood
 settings-are-refused = refl
 
 settings-are-accepted : refusals settingsIn ≡ replicate 9 0
-unfolding restoreRefusal startRefusal settingsRefusal samplesGood frequencyGood declaredGood limitGood levelsGood orderGood gathererGood valuesGood changeGood standingGood eventsGood
+unfolding restoreRefusal startRefusal settingsRefusal samplesGood frequencyGood declaredGood limitGood levelsGood orderGood
 settings-are-accepted = refl
 
 bodies-are-refused : refusals bodiesOut ≡ replicate 19 11
-unfolding restoreRefusal startRefusal settingsRefusal samplesGood frequencyGood declaredGood limitGood levelsGood orderGood gathererGood valuesGood changeGood standingGood eventsGood
+unfolding restoreRefusal startRefusal settingsRefusal samplesGood frequencyGood declaredGood limitGood levelsGood orderGood
 bodies-are-refused = refl
 
 bodies-are-accepted : refusals bodiesIn ≡ replicate 15 0
-unfolding restoreRefusal startRefusal settingsRefusal samplesGood frequencyGood declaredGood limitGood levelsGood orderGood gathererGood valuesGood changeGood standingGood eventsGood
+unfolding restoreRefusal startRefusal settingsRefusal samplesGood frequencyGood declaredGood limitGood levelsGood orderGood
 bodies-are-accepted = refl
 
 pub bench-holds : BenchReadings
@@ -103,8 +103,9 @@ bench-holds = record {
   program-record = refl;
   program-bytes = refl;
   program-count = refl;
-  program-taken = refl;
-  program-why = refl;
+  program-without-room = refl;
+  lengths = refl;
+  sections = refl;
   changing-image = changing-image-is;
   changing-accepted = changing-is-accepted;
   lengths-refused = lengths-are-refused;

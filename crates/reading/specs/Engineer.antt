@@ -14,6 +14,7 @@ use Rattle.reading.specs.declared.Readings.{Readings}
 use Rattle.reading.specs.Values.{Samples, values}
 use Rattle.reading.specs.Thresholds.{standsSince}
 use Rattle.reading.specs.Changes.{windowSum, signal}
+use Rattle.reading.specs.Layout.{recordLength, imageLength}
 use Rattle.reading.specs.Records.{recordBytes}
 use Rattle.reading.specs.Image.{phaseNumber, imageOf}
 use Rattle.reading.specs.Restore.{restoreRefusal}
@@ -62,7 +63,7 @@ emptyDesk = record { recording = []; copies = [] }
 
 -- room is the whole number of records that fit the lent bytes
 abbrev pub room : List ℕ → ℕ
-room lent = length lent / 20
+room lent = length lent / recordLength
 
 -- the answer to a call. A restore that names a save is accepted
 abbrev pub answer : Settings → Desk → Call → Answer
@@ -71,7 +72,7 @@ answer s d (feed block lent) =
     let written = completed s (d .recording) block n in
     fed (record { taken = n; written = length written; why = why s (d .recording) block n }) (over (recordBytes written) lent)
 answer s d look = looked (readings s (values s (d .recording)))
-answer s d (save lent) = if length lent <ᵇ 620 then saved 7 lent else saved 0 (over (imageOf s (d .recording)) lent)
+answer s d (save lent) = if length lent <ᵇ imageLength then saved 7 lent else saved 0 (over (imageOf s (d .recording)) lent)
 answer s d (restoreSave j) = restored 0
 answer s d (restoreRefused bytes) = restored (restoreRefusal bytes)
 
@@ -79,7 +80,7 @@ answer s d (restoreRefused bytes) = restored (restoreRefusal bytes)
 abbrev pub deskWith : Settings → Desk → Call → Desk
 deskWith s d (feed block lent) = record { recording = d .recording ++ take (taken s (d .recording) block (room lent)) block; copies = d .copies }
 deskWith s d look = d
-deskWith s d (save lent) = if length lent <ᵇ 620 then d else record { recording = d .recording; copies = d .copies ++ (d .recording ∷ []) }
+deskWith s d (save lent) = if length lent <ᵇ imageLength then d else record { recording = d .recording; copies = d .copies ++ (d .recording ∷ []) }
 deskWith s d (restoreSave j) = record { recording = getD (d .copies) j []; copies = d .copies }
 deskWith s d (restoreRefused bytes) = d
 
@@ -99,6 +100,6 @@ abbrev pub WellFormed : ℕ → List Call → Type 0
 WellFormed n [] = Unit {0}
 WellFormed n (feed block lent ∷ cs) = Samples block × Bytes lent × WellFormed n cs
 WellFormed n (look ∷ cs) = WellFormed n cs
-WellFormed n (save lent ∷ cs) = Bytes lent × WellFormed (if length lent <ᵇ 620 then n else suc n) cs
+WellFormed n (save lent ∷ cs) = Bytes lent × WellFormed (if length lent <ᵇ imageLength then n else suc n) cs
 WellFormed n (restoreSave j ∷ cs) = (j < n) × WellFormed n cs
 WellFormed n (restoreRefused bytes ∷ cs) = Bytes bytes × (restoreRefusal bytes ≢ 0) × WellFormed n cs

@@ -7,7 +7,6 @@ use lib.IntN.{ℤ}
 use Rattle.settings.specs.declared.Settings.{Settings}
 use Rattle.numbers.specs.Notation.{_≤ᵇ_, _≡ᵇ_, if_then_else_}
 use Rattle.reading.specs.declared.Event.{Event}
-use Rattle.reading.specs.declared.Told.{Told}
 use Rattle.reading.specs.Values.{valueCount, history}
 use Rattle.reading.specs.Records.{due}
 
@@ -44,9 +43,3 @@ taken s rec block room = greatestTo (allowed s rec block room) (length block)
 -- why: 0 all taken, 2 the next sample would pass V's end, 1 its records would not fit
 abbrev pub why : Settings → List ℤ → List ℤ → ℕ → ℕ
 why s rec block n = if n ≡ᵇ length block then 0 else if withinEnd s rec block (n + 1) then 1 else 2
-
--- what a feed leaves: who was fed, what it tells, and the record buffer
-pub record Outcome (L : Type 0) : Type 0 where
-  pub after : L
-  pub told : Told
-  pub bytes : List ℕ

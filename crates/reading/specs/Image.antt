@@ -1,31 +1,29 @@
--- 01, "The image": the 620 bytes of a recording.
-use mathlib.Core.Bool.{Bool, true, false}
+-- 01, "The image" of a recording.
 use mathlib.Core.List.{List, [], _∷_, _++_, reverse}
 use Prim.Native.Nat.{ℕ, zero, suc, _-_, _*_, _%_}
 use lib.ListN.{length, take, drop, replicate}
 use lib.IntN.{ℤ}
-use Rattle.octets.specs.Bytes.{bytesOf, words}
+use Rattle.octets.specs.Bytes.{row}
 use Rattle.settings.specs.declared.Settings.{Settings}
-use Rattle.numbers.specs.Notation.{_<ᵇ_, _≡ᵇ_, if_then_else_}
-use Rattle.settings.specs.Settings.{windowLength, settingsBytes}
+use Rattle.numbers.specs.Notation.{_<ᵇ_, _≡ᵇ_, if_then_else_, flag}
+use Rattle.settings.specs.Settings.{windowLength, settingsLength, settingsBytes}
 use Rattle.reading.specs.declared.Kind.{Kind}
 use Rattle.reading.specs.declared.Kind.the-variants.{Dip, Swell, Interruption}
 use Rattle.reading.specs.Values.{squares, energy, halves, values, since}
 use Rattle.reading.specs.Thresholds.{standsSince, magnitude}
 use Rattle.reading.specs.Changes.{Signal, signal, sumBefore, greatestDifference, firstStand}
 use Rattle.reading.specs.Changes.Signal.{filling, unsettled, steady, changing}
+use Rattle.reading.specs.Layout.{entryWidths, places, gathererWidths, gathererLength, valuesWidths, valuesLength, eventsWidths, eventsLength}
+use Rattle.reading.specs.Layout.{settingsOffset, gathererOffset, valuesOffset, eventsOffset}
 
--- an entry of the table of contents: code, offset and length of a body
+-- the table of contents: code, offset and length of each body
 abbrev pub entry : ℕ → ℕ → ℕ → List ℕ
-entry code offset size = bytesOf 4 code ++ (bytesOf 2 offset ++ bytesOf 2 size)
+entry code offset size = row entryWidths (code ∷ offset ∷ size ∷ [])
 
 abbrev pub table : List ℕ
-table = entry 1 32 36 ++ (entry 2 68 24 ++ (entry 3 92 484 ++ entry 4 576 44))
-
--- 1 for yes, 0 for no
-abbrev pub flag : Bool → ℕ
-flag true = 1
-flag false = 0
+table =
+    entry 1 settingsOffset settingsLength
+    ++ (entry 2 gathererOffset gathererLength ++ (entry 3 valuesOffset valuesLength ++ entry 4 eventsOffset eventsLength))
 
 -- the sum of the last of h whole half-cycles, 0 without one
 abbrev pub lastSum : Settings → List ℤ → ℕ → ℕ
@@ -36,13 +34,13 @@ lastSum s rec (suc h) = energy s rec (suc h)
 abbrev pub gathererBytes : Settings → List ℤ → List ℕ
 gathererBytes s rec =
     let whole = halves s rec in
-    bytesOf 4 (length rec % s .samples) ++ (bytesOf 8 (squares (drop (whole * s .samples) rec)) ++ (bytesOf 8 (lastSum s rec whole) ++ bytesOf 4 (flag (0 <ᵇ whole))))
+    row gathererWidths (length rec % s .samples ∷ squares (drop (whole * s .samples) rec) ∷ lastSum s rec whole ∷ flag (0 <ᵇ whole) ∷ [])
 
--- body 3: V, then 120 places with the last N values at most, oldest first, the rest 0
+-- body 3: V, then the places with the last N values at most, oldest first, the rest 0
 abbrev pub valuesBytes : Settings → List ℕ → List ℕ
 valuesBytes s hist =
     let kept = reverse (take (windowLength s) hist) in
-    bytesOf 4 (length hist) ++ words (kept ++ replicate (120 - length kept) 0)
+    row valuesWidths (length hist ∷ (kept ++ replicate (places - length kept) 0))
 
 -- the phase's number: 0 fewer than N values, 1 never yet steady, 2 steady, 3 in a change
 abbrev pub phaseNumber : Signal → ℕ
@@ -69,7 +67,7 @@ standingNumbers s kind hist =
 abbrev pub eventsBytes : Settings → List ℕ → List ℕ
 eventsBytes s hist =
     let now = signal s hist in
-    words (phaseNumber now ∷ (changeNumbers s hist now ++ (standingNumbers s Dip hist ++ (standingNumbers s Swell hist ++ standingNumbers s Interruption hist))))
+    row eventsWidths (phaseNumber now ∷ (changeNumbers s hist now ++ (standingNumbers s Dip hist ++ (standingNumbers s Swell hist ++ standingNumbers s Interruption hist))))
 
 -- the image: the table, the settings and the three other bodies
 abbrev pub imageOf : Settings → List ℤ → List ℕ

@@ -1,10 +1,12 @@
 pub mod Values
 pub mod Thresholds
 pub mod Changes
+pub mod Layout
 pub mod Records
 pub mod Image
 pub mod Restore
 pub mod Feed
+pub mod Calls
 pub mod Engineer
 pub mod Bench
 pub mod BenchProof

@@ -1,17 +1,22 @@
 -- 01, "The record".
 use mathlib.Core.List.{List, [], _∷_, _++_}
 use Prim.Native.Nat.{ℕ}
-use Rattle.octets.specs.Bytes.{words}
+use Rattle.octets.specs.Bytes.{row}
 use Rattle.settings.specs.declared.Settings.{Settings}
 use Rattle.reading.specs.declared.Kind.the-variants.{Dip, Swell, Interruption}
 use Rattle.reading.specs.declared.Event.{Event}
+use Rattle.reading.specs.Layout.{recordWidths}
 use Rattle.reading.specs.Thresholds.{thresholdDue}
 use Rattle.reading.specs.Changes.{changeDue}
 
--- 20 bytes for each event: its kind and three zero bytes, then start, duration, first and second magnitude
+-- of an event: its kind, three zero bytes, then start, duration, first and second magnitude
+abbrev pub recordNumbers : Event → List ℕ
+recordNumbers e = e .kind ∷ 0 ∷ e .start ∷ e .duration ∷ e .first ∷ e .second ∷ []
+
+-- the records of events, one behind the other
 abbrev pub recordBytes : List Event → List ℕ
 recordBytes [] = []
-recordBytes (e ∷ es) = e .kind ∷ 0 ∷ 0 ∷ 0 ∷ (words (e .start ∷ e .duration ∷ e .first ∷ e .second ∷ []) ++ recordBytes es)
+recordBytes (e ∷ es) = row recordWidths (recordNumbers e) ++ recordBytes es
 
 -- the events due at the newest value, by kind
 abbrev pub due : Settings → List ℕ → List Event

@@ -1,12 +1,17 @@
--- 01, "Restore": which bytes are refused. Each body is judged by itself, with the settings and V.
-use mathlib.Core.Bool.{Bool, true, false, not, _&&_, _||_, Bool·beq as iff}
+-- 01, "Restore": which bytes are refused. Each section is judged by itself and by what was read from those before it. Refusal 11's rules are said over the
+-- numbers of a body, in their order there.
+use mathlib.Core.Bool.{Bool, true, false, _&&_}
 use mathlib.Core.List.{List, [], _∷_}
 use Prim.Native.Nat.{ℕ, _+_, _*_, _^_, min}
-use lib.ListN.{length, take, drop}
-use Rattle.octets.specs.Bytes.{numberAt, wordsAt}
+use lib.ListN.{length, take, drop, getD}
+use Rattle.octets.specs.Bytes.{numbersIn}
+use Rattle.numbers.specs.Notation.{_≡ᵇ_, refuse_unless_then_}
+use Rattle.numbers.specs.Rules.{Rule, passes}
+use Rattle.numbers.specs.Rules.Rule.{_≤ʳ_, _<ʳ_, _≡ʳ_, upTo, zeros, _and_, _implies_, _exactly-when_}
 use Rattle.settings.specs.declared.Settings.{Settings}
-use Rattle.numbers.specs.Notation.{_≤ᵇ_, _<ᵇ_, _≡ᵇ_, if_then_else_, all, refuse_unless_then_}
-use Rattle.settings.specs.Settings.{windowLength, settingsOf, startRefusal}
+use Rattle.settings.specs.Settings.{windowLength, settingsLength, settingsOf, startRefusal}
+use Rattle.reading.specs.Layout.{gathererWidths, gathererLength, valuesWidths, valuesLength, eventsWidths, eventsLength, tableLength, imageLength}
+use Rattle.reading.specs.Layout.{settingsOffset, gathererOffset, valuesOffset, eventsOffset}
 use Rattle.reading.specs.Image.{table}
 
 -- the bytes of a section
@@ -20,64 +25,92 @@ sameBytes [] (y ∷ ys) = false
 sameBytes (x ∷ xs) [] = false
 sameBytes (x ∷ xs) (y ∷ ys) = x ≡ᵇ y && sameBytes xs ys
 
--- where a holds, b does
-abbrev pub implies : Bool → Bool → Bool
-implies a b = not a || b
+-- the greatest value
+abbrev pub valueMost : ℕ
+valueMost = 524288
 
--- body 2: count < M; sum ≤ count × 2^30; last sum ≤ M × 2^30; mark 0 or 1, and 0 means last sum and V are 0
-unfoldable pub gathererGood : Settings → ℕ → List ℕ → Bool
-gathererGood s v body =
-    let count = numberAt 0 4 body in
-    let last = numberAt 12 8 body in
-    let mark = numberAt 20 4 body in
-    count <ᵇ s .samples
-    && (numberAt 4 8 body ≤ᵇ count * 2 ^ 30
-    && (last ≤ᵇ s .samples * 2 ^ 30
-    && (mark ≤ᵇ 1 && implies (mark ≡ᵇ 0) (last ≡ᵇ 0 && v ≡ᵇ 0))))
+-- body 2, count, sum, last sum and mark: count < M; sum ≤ count × 2^30; last sum ≤ M × 2^30; mark 0 or 1, and 0 means last sum is 0
+abbrev pub gathererRule : ℕ → List ℕ → Rule
+gathererRule m ns =
+    let count = getD ns 0 0 in
+    let last = getD ns 2 0 in
+    let mark = getD ns 3 0 in
+    count <ʳ m
+    and getD ns 1 0 ≤ʳ count * 2 ^ 30
+    and last ≤ʳ m * 2 ^ 30
+    and mark ≤ʳ 1
+    and mark ≡ʳ 0 implies last ≡ʳ 0
 
--- body 3: values ≤ 524,288, and 0 in the unused places, those after the first min(V, N)
-unfoldable pub valuesGood : Settings → List ℕ → Bool
-valuesGood s body =
-    let v = numberAt 0 4 body in
-    let places = wordsAt 4 120 body in
-    all (_≤ᵇ 524288) places && all (_≡ᵇ 0) (drop (min v (windowLength s)) places)
+-- mark 0 means V is 0
+abbrev pub wholeRule : ℕ → ℕ → Rule
+wholeRule mark v = mark ≡ʳ 0 implies v ≡ʳ 0
 
--- body 4, a change: N < k ≤ V; A(k − 1) and the greatest difference at most N × 524,288; the difference 0 when V < k + N; the first stand 0 or from k to V
-unfoldable pub changeGood : ℕ → ℕ → List ℕ → Bool
-changeGood n v body =
-    let k = numberAt 4 4 body in
-    let difference = numberAt 12 4 body in
-    let stand = numberAt 16 4 body in
-    n <ᵇ k
-    && (k ≤ᵇ v
-    && (numberAt 8 4 body ≤ᵇ n * 524288
-    && (difference ≤ᵇ n * 524288
-    && (implies (v <ᵇ k + n) (difference ≡ᵇ 0) && (stand ≡ᵇ 0 || k ≤ᵇ stand && stand ≤ᵇ v)))))
+-- values ≤ 524,288, and 0 in the unused places, those after the first min(V, N)
+abbrev pub placesRule : ℕ → ℕ → List ℕ → Rule
+placesRule n v values = upTo valueMost values and zeros (drop (min v n) values)
+
+-- body 3, V and the places, behind a body 2 with that mark
+abbrev pub valuesRule : ℕ → ℕ → List ℕ → Rule
+valuesRule n mark ns = wholeRule mark (getD ns 0 0) and placesRule n (getD ns 0 0) (drop 1 ns)
+
+-- a change, k, A(k − 1), greatest difference and first stand: N < k ≤ V; the two in the middle at most N × 524,288; the difference 0 when V < k + N; the first
+-- stand 0, or else from k to V
+abbrev pub changeRule : ℕ → ℕ → List ℕ → Rule
+changeRule n v ns =
+    let k = getD ns 0 0 in
+    let difference = getD ns 2 0 in
+    let stand = getD ns 3 0 in
+    n <ʳ k
+    and k ≤ʳ v
+    and getD ns 1 0 ≤ʳ n * valueMost
+    and difference ≤ʳ n * valueMost
+    and v <ʳ k + n implies difference ≡ʳ 0
+    and 0 <ʳ stand implies (k ≤ʳ stand and stand ≤ʳ v)
+
+-- the phase and a change's numbers: phase 0 to 3, and 0 exactly when V < N; a change's numbers in phase 3, outside it zeros
+abbrev pub phaseRule : ℕ → ℕ → List ℕ → Rule
+phaseRule n v ns =
+    let phase = getD ns 0 0 in
+    let change = take 4 (drop 1 ns) in
+    phase ≤ʳ 3
+    and phase ≡ʳ 0 exactly-when v <ʳ n
+    and phase ≡ʳ 3 implies changeRule n v change
+    and phase <ʳ 3 implies zeros change
 
 -- an event: its start 0 to V, its magnitude ≤ 524,288, and 0 where the start is 0
-unfoldable pub standingGood : ℕ → ℕ → List ℕ → Bool
-standingGood v offset body =
-    let start = numberAt offset 4 body in
-    let so-far = numberAt (offset + 4) 4 body in
-    start ≤ᵇ v && (so-far ≤ᵇ 524288 && implies (start ≡ᵇ 0) (so-far ≡ᵇ 0))
+abbrev pub standingRule : ℕ → ℕ → ℕ → Rule
+standingRule v start so-far = start ≤ʳ v and so-far ≤ʳ valueMost and start ≡ʳ 0 implies so-far ≡ʳ 0
 
--- body 4: phase 0 to 3, and 0 exactly when V < N; the change's four numbers, 0 outside phase 3; the three events
-unfoldable pub eventsGood : Settings → ℕ → List ℕ → Bool
-eventsGood s v body =
-    let n = windowLength s in
-    let phase = numberAt 0 4 body in
-    phase ≤ᵇ 3
-    && (iff (phase ≡ᵇ 0) (v <ᵇ n)
-    && ((if phase ≡ᵇ 3 then changeGood n v body else all (_≡ᵇ 0) (wordsAt 4 4 body))
-    && (standingGood v 20 body && (standingGood v 28 body && standingGood v 36 body))))
+-- body 4: the phase; the dip, the swell and the interruption
+abbrev pub eventsRule : ℕ → ℕ → List ℕ → Rule
+eventsRule n v ns =
+    phaseRule n v ns
+    and standingRule v (getD ns 5 0) (getD ns 6 0)
+    and standingRule v (getD ns 7 0) (getD ns 8 0)
+    and standingRule v (getD ns 9 0) (getD ns 10 0)
+
+-- the sections of an image, and the numbers of its bodies
+abbrev pub settingsPart : List ℕ → List ℕ
+settingsPart b = part settingsOffset settingsLength b
+
+abbrev pub gathererIn : List ℕ → List ℕ
+gathererIn b = numbersIn gathererWidths (part gathererOffset gathererLength b)
+
+abbrev pub valuesIn : List ℕ → List ℕ
+valuesIn b = numbersIn valuesWidths (part valuesOffset valuesLength b)
+
+abbrev pub eventsIn : List ℕ → List ℕ
+eventsIn b = numbersIn eventsWidths (part eventsOffset eventsLength b)
 
 -- each section is taken only if the one before it was good; 0 where the bytes are accepted
 unfoldable pub restoreRefusal : List ℕ → ℕ
 restoreRefusal b =
-    let s = settingsOf (part 32 36 b) in
-    let v = numberAt 92 4 b in
-    refuse 8 unless length b ≡ᵇ 620 then
-    refuse 9 unless sameBytes (part 0 32 b) table then
-    refuse 10 unless startRefusal (part 32 36 b) ≡ᵇ 0 then
-    refuse 11 unless gathererGood s v (part 68 24 b) && (valuesGood s (part 92 484 b) && eventsGood s v (part 576 44 b)) then
+    let s = settingsOf (settingsPart b) in
+    let n = windowLength s in
+    refuse 8 unless length b ≡ᵇ imageLength then
+    refuse 9 unless sameBytes (part 0 tableLength b) table then
+    refuse 10 unless startRefusal (settingsPart b) ≡ᵇ 0 then
+    refuse 11 unless passes (gathererRule (s .samples) (gathererIn b)) then
+    refuse 11 unless passes (valuesRule n (getD (gathererIn b) 3 0) (valuesIn b)) then
+    refuse 11 unless passes (eventsRule n (getD (valuesIn b) 0 0) (eventsIn b)) then
     0

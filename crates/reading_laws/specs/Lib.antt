@@ -4,4 +4,5 @@ pub mod DivisionLaws
 pub mod RecordingsLaws
 pub mod CompletedLaws
 pub mod TakenLaws
+pub mod SignalLaws
 pub mod SentencesProof

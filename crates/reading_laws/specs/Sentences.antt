@@ -1,12 +1,16 @@
 -- The sentences of 01 that a reader expects of the readings, where a definition recurses in its own way: the statement.
 use mathlib.Core.Path.{_≡_}
-use mathlib.Core.Bool.{true}
-use mathlib.Core.List.{List, _++_}
-use Prim.Native.Nat.{ℕ, _+_, _*_, _≤_, _<_}
+use mathlib.Core.Logic.{_⊎_}
+use mathlib.Core.Bool.{Bool, true, false}
+use mathlib.Core.List.{List, _∷_, _++_}
+use Prim.Native.Nat.{ℕ, _+_, _-_, _*_, _≤_, _<_}
 use lib.ListN.{length, take}
 use lib.IntN.{ℤ}
 use Rattle.settings.specs.declared.Settings.{Settings}
-use Rattle.reading.specs.Values.{Samples, energy, root, value, valueCount, values}
+use Rattle.settings.specs.Settings.{windowLength}
+use Rattle.reading.specs.Values.{Samples, energy, root, value, valueCount, values, upTo}
+use Rattle.reading.specs.Changes.{calm, Signal, signal}
+use Rattle.reading.specs.Changes.Signal.{filling, unsettled, steady, changing}
 use Rattle.reading.specs.Records.{events}
 use Rattle.reading.specs.Feed.{lastValue, completed, allowed, taken}
 
@@ -14,6 +18,27 @@ use Rattle.reading.specs.Feed.{lastValue, completed, allowed, taken}
 pub record Greatest (P : ℕ → Type 0) (r : ℕ) : Type 0 where
   pub holds : P r
   pub most : (k : ℕ) → P k → k ≤ r
+
+-- the signal's truth value, without what is kept of it
+abbrev pub truth : Signal → Bool
+truth filling = false
+truth unsettled = false
+truth steady = true
+truth (changing k) = false
+
+-- the steady signal at the newest value of a history, true or false
+abbrev pub isSteady : Settings → List ℕ → Bool
+isSteady s hist = truth (signal s hist)
+
+-- it has never been true, up to the newest value
+abbrev pub NeverTrue : Settings → List ℕ → Type 0
+NeverTrue s hist = (i : ℕ) → i ≤ length hist → isSteady s (upTo i hist) ≡ false
+
+-- k is the value at which it last turned false: true at k − 1, and false from k on to the newest value
+pub record LastTurnedFalse (s : Settings) (hist : List ℕ) (k : ℕ) : Type 0 where
+  pub there : k ≤ length hist
+  pub before : isSteady s (upTo (k - 1) hist) ≡ true
+  pub since : (i : ℕ) → k ≤ i → i ≤ length hist → isSteady s (upTo i hist) ≡ false
 
 pub record Sentences : Type 0 where
   -- the root of n is the greatest number whose square is at most n
@@ -25,6 +50,20 @@ pub record Sentences : Type 0 where
   pub value-bounded : (s : Settings) → 0 < s .samples → (rec : List ℤ) → Samples rec → (i : ℕ) → value s rec i ≤ 524288
   -- a value does not change when the recording grows
   pub value-stays : (s : Settings) → 0 < s .samples → (rec xs : List ℤ) (i : ℕ) → 1 ≤ i → i ≤ valueCount s rec → value s (rec ++ xs) i ≡ value s rec i
+  -- the steady signal at N is calm under T; with fewer values it is false
+  pub signal-at-N : (s : Settings) (hist : List ℕ) → length hist ≡ windowLength s → isSteady s hist ≡ calm s (s .limit) hist
+  pub signal-before-N : (s : Settings) (hist : List ℕ) → length hist < windowLength s → isSteady s hist ≡ false
+  -- later: if it was true at i − 1, it is calm under T at i; if it has never been true, the same
+  pub signal-after-true : (s : Settings) (r : ℕ) (older : List ℕ) → isSteady s older ≡ true → isSteady s (r ∷ older) ≡ calm s (s .limit) (r ∷ older)
+  pub signal-never-true : (s : Settings) (r : ℕ) (older : List ℕ) → windowLength s ≤ length older → NeverTrue s older
+      → isSteady s (r ∷ older) ≡ calm s (s .limit) (r ∷ older)
+  -- else let k be the value at which it last turned false: it is false up to k + N, and from k + N + 1 on it is calm under T − H at i
+  pub signal-held : (s : Settings) (r : ℕ) (older : List ℕ) (k : ℕ) → LastTurnedFalse s older k → length (r ∷ older) ≤ k + windowLength s
+      → isSteady s (r ∷ older) ≡ false
+  pub signal-returns : (s : Settings) (r : ℕ) (older : List ℕ) (k : ℕ) → LastTurnedFalse s older k → k + windowLength s < length (r ∷ older)
+      → isSteady s (r ∷ older) ≡ calm s (s .limit - s .reduction) (r ∷ older)
+  -- there is no other case: at i − 1 it was true, or it has never been true, or it last turned false at some k
+  pub signal-cases : (s : Settings) (older : List ℕ) → (isSteady s older ≡ true) ⊎ NeverTrue s older ⊎ ((k : ℕ) × LastTurnedFalse s older k)
   -- the samples that feed takes are allowed: their records fit and V stays within its end; and no greater number of the block's is
   pub taken-fits : (s : Settings) → 0 < s .samples → (rec block : List ℤ) (room : ℕ) → valueCount s rec ≤ lastValue
       → (taken s rec block room ≤ length block) × (allowed s rec block room (taken s rec block room) ≡ true)

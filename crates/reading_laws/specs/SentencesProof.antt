@@ -1,9 +1,11 @@
 -- The sentences, proved of the readings.
+use native.Mathlib.Omega.{arith}
 use Rattle.reading_laws.specs.Sentences.{Sentences}
 use Rattle.reading_laws.specs.RootLaws.{root-is, root-most}
 use Rattle.reading_laws.specs.RecordingsLaws.{value-is, value-le, value-grow}
 use Rattle.reading_laws.specs.CompletedLaws.{events-completed}
 use Rattle.reading_laws.specs.TakenLaws.{taken-le, taken-allowed, taken-greatest}
+use Rattle.reading_laws.specs.SignalLaws.{signal-was, false-before-N, calm-after-true, calm-if-never, false-in-change, calm-in-change, calm-at-N}
 
 pub sentences-hold : Sentences
 sentences-hold = record {
@@ -11,6 +13,13 @@ sentences-hold = record {
   value-greatest = λ s h rec i. value-is s rec i h;
   value-bounded = λ s h rec are i. value-le s rec are h i;
   value-stays = λ s h rec xs i. value-grow s rec xs h i;
+  signal-at-N = calm-at-N;
+  signal-before-N = false-before-N;
+  signal-after-true = calm-after-true;
+  signal-never-true = λ s r older h. calm-if-never s r older (omega arith);
+  signal-held = false-in-change;
+  signal-returns = calm-in-change;
+  signal-cases = signal-was;
   taken-fits = λ s h rec block room v. (taken-le s rec block room h, taken-allowed s rec block room h v);
   taken-most = λ s h rec block room. taken-greatest s rec block room h;
   records-added = λ s h. events-completed s h;

@@ -2,17 +2,21 @@
 use mathlib.Core.List.{List, _++_}
 use Prim.Native.Nat.{ℕ}
 use lib.ListN.{take, drop, getD}
-use Rattle.octets.specs.Bytes.{numberAt}
+use Rattle.octets.specs.Bytes.{numbersIn}
 use Rattle.reading.specs.declared.Event.{Event}
 use Rattle.reading.specs.Engineer.{over}
+use Rattle.reading.specs.Layout.{recordWidths}
 use Rattle.threshold.specs.Standing.{listOf}
 use Rattle.records.specs.declared.Due.{Due}
 
 abbrev pub eventsOf : Due → List Event
 eventsOf d = listOf (d .dip) ++ (listOf (d .swell) ++ (listOf (d .interruption) ++ listOf (d .change)))
 
+abbrev pub eventFrom : List ℕ → Event
+eventFrom ns = record { kind = getD ns 0 0; start = getD ns 2 0; duration = getD ns 3 0; first = getD ns 4 0; second = getD ns 5 0 }
+
 abbrev pub eventOf : List ℕ → Event
-eventOf b = record { kind = getD b 0 0; start = numberAt 4 4 b; duration = numberAt 8 4 b; first = numberAt 12 4 b; second = numberAt 16 4 b }
+eventOf b = eventFrom (numbersIn recordWidths b)
 
 -- a buffer with bytes from a place on, its other bytes unchanged
 abbrev pub placed : ℕ → List ℕ → List ℕ → List ℕ

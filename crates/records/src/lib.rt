@@ -1,4 +1,4 @@
-// The record of an event, 20 bytes, and the records due at one value.
+// The record of an event, and the records due at one value.
 use reading::Event;
 use threshold::Ended;
 ghost use mathlib.Core.Path.{_≡_};
@@ -7,8 +7,14 @@ ghost use Prim.Native.Nat.{_+_, _*_, _≤_};
 ghost use lib.ListN.{length};
 ghost use Rattle.reading.specs.Records.{recordBytes};
 ghost use Rattle.reading.specs.Engineer.{over};
+ghost use Rattle.reading.specs.Layout.{recordLength};
 ghost use Rattle.threshold.specs.Standing.{listOf};
 ghost use Rattle.records.specs.Due.{eventsOf, eventOf, placed};
+
+// A record: kind, zero bytes, start, duration, first and second magnitude.
+pub const RECORD_LENGTH: usize = 20;
+
+const WIDTHS: [u8; 6] = [1, 3, 4, 4, 4, 4];
 
 // The events due at one value, by kind.
 pub struct Due {
@@ -20,39 +26,47 @@ pub struct Due {
 
 // Writes an event's record into its part of a buffer.
 pub fn put_record(part: &mut [u8], event: Event)
-    requires { ⌜ length (now part) ≡ 20 ⌝ }
+    requires { ⌜ length (now part) ≡ recordLength ⌝ }
     ensures { λ _. ⌜ now (part .exit) ≡ recordBytes (event ∷ []) ⌝ }
 {
-    octets::put_number(&mut part[0..4], event.kind as u64);
-    octets::put_number(&mut part[4..8], event.start);
-    octets::put_number(&mut part[8..12], event.duration);
-    octets::put_number(&mut part[12..16], event.first);
-    octets::put_number(&mut part[16..20], event.second);
+    let widths = WIDTHS;
+    let numbers = [
+        event.kind as u64,
+        0,
+        event.start,
+        event.duration,
+        event.first,
+        event.second,
+    ];
+    octets::put_row(part, &widths, &numbers);
 }
 
 // The event of a record.
 pub fn get_record(bytes: &[u8]) -> Event
-    requires { ⌜ length (now bytes) ≡ 20 ⌝ }
+    requires { ⌜ length (now bytes) ≡ recordLength ⌝ }
     ensures { λ r. ⌜ r ≡ eventOf (now (bytes .entry)) ⌝ }
 {
+    let widths = WIDTHS;
+    let mut numbers = [0u64; 6];
+    octets::get_row(bytes, &widths, &mut numbers);
     Event {
-        kind: bytes[0],
-        start: octets::get_u32(bytes, 4) as u64,
-        duration: octets::get_u32(bytes, 8) as u64,
-        first: octets::get_u32(bytes, 12) as u64,
-        second: octets::get_u32(bytes, 16) as u64,
+        kind: numbers[0] as u8,
+        start: numbers[2],
+        duration: numbers[3],
+        first: numbers[4],
+        second: numbers[5],
     }
 }
 
 // Writes the record of an event that is over, if one is, from a place of a buffer on; the place after it.
 fn put_ended(ended: Ended, buffer: &mut [u8], at: usize) -> usize
-    requires { ⌜ at + 20 * length (listOf ended) ≤ length (now buffer) ⌝ }
-    ensures { λ r. ⌜ (r ≡ at + 20 * length (listOf ended)) × (now (buffer .exit) ≡ placed at (recordBytes (listOf ended)) (now (buffer .entry))) ⌝ }
+    requires { ⌜ at + recordLength * length (listOf ended) ≤ length (now buffer) ⌝ }
+    ensures { λ r. ⌜ (r ≡ at + recordLength * length (listOf ended)) × (now (buffer .exit) ≡ placed at (recordBytes (listOf ended)) (now (buffer .entry))) ⌝ }
 {
     match ended {
         Ended::Nothing => at,
         Ended::Over(event) => {
-            let end = at + 20;
+            let end = at + RECORD_LENGTH;
             put_record(&mut buffer[at..end], event);
             end
         }
@@ -82,7 +96,7 @@ impl Due {
 
     // Writes their records, by kind, at the front of a buffer. At most values there are none.
     pub fn put(self, buffer: &mut [u8])
-        requires { ⌜ 20 * length (eventsOf self) ≤ length (now buffer) ⌝ }
+        requires { ⌜ recordLength * length (eventsOf self) ≤ length (now buffer) ⌝ }
         ensures { λ _. ⌜ now (buffer .exit) ≡ over (recordBytes (eventsOf self)) (now (buffer .entry)) ⌝ }
     {
         if self.count() == 0 {

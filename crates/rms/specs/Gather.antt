@@ -1,14 +1,15 @@
 -- The gatherer's steps, where a half-cycle ends, and the gatherer that a recording leaves. 01: count and sum of the half in progress, sum of the last whole half.
-use mathlib.Core.Path.{_≡_}
 use mathlib.Core.Bool.{Bool, true, false}
 use mathlib.Core.List.{List, [], _∷_}
-use Prim.Native.Nat.{ℕ, _+_, _-_, _*_, _%_, _^_, _≤_, _<_}
+use Prim.Native.Nat.{ℕ, _+_, _-_, _*_, _%_, _^_, _≤_}
 use lib.ListN.{length, drop}
 use lib.IntN.{ℤ}
-use Rattle.numbers.specs.Notation.{_<ᵇ_, if_then_else_}
+use Rattle.numbers.specs.Notation.{_<ᵇ_, if_then_else_, flag}
+use Rattle.numbers.specs.Rules.{Holds}
 use Rattle.settings.specs.declared.Settings.{Settings}
 use Rattle.reading.specs.Values.{squares, rms, halves}
 use Rattle.reading.specs.Image.{lastSum}
+use Rattle.reading.specs.Restore.{gathererRule}
 use Rattle.rms.specs.declared.Part.{Part}
 use Rattle.rms.specs.declared.Gatherer.{Gatherer}
 use Rattle.rms.specs.declared.Share.{Share}
@@ -59,12 +60,12 @@ gathererOf s rec = record {
   whole = 0 <ᵇ halves s rec;
 }
 
--- what refusal 11 allows of a gatherer, with m samples in a half-cycle
-pub record ValidGatherer (m : ℕ) (g : Gatherer) : Type 0 where
-  pub count-lt : g .count < m
-  pub sum-le : g .sum ≤ g .count * 2 ^ 30
-  pub last-le : g .last ≤ m * 2 ^ 30
-  pub last-none : g .whole ≡ false → g .last ≡ 0
+-- a gatherer in the numbers of body 2, and what refusal 11 allows of it, with m samples in a half-cycle
+abbrev pub gathererRow : Gatherer → List ℕ
+gathererRow g = g .count ∷ g .sum ∷ g .last ∷ flag (g .whole) ∷ []
+
+abbrev pub ValidGatherer : ℕ → Gatherer → Type 0
+ValidGatherer m g = Holds (gathererRule m (gathererRow g))
 
 -- a part that the half-cycle in progress has room for, of 16-bit samples
 pub record PartFits (m : ℕ) (g : Gatherer) (p : Part) : Type 0 where

@@ -11,7 +11,8 @@ use lib.ListN.{length, drop, length-append, length-drop, drop-of-length-le}
 use lib.Seq.{append-snoc, drop-append-le, drop-nil, take-all}
 use lib.IntN.{ℤ}
 use borrow.Author.Tests.{ltb-false, lt-ltb, eqb-true, eqb-false}
-use Rattle.numbers.specs.Notation.{_<ᵇ_, _≡ᵇ_, if_then_else_}
+use Rattle.numbers.specs.Notation.{_<ᵇ_, _≡ᵇ_, if_then_else_, flag}
+use Rattle.numbers.specs.NotationLaws.{flag-most, flag-none}
 use Rattle.settings.specs.declared.Settings.{Settings}
 use Rattle.reading.specs.Values.{Samples, squares, energy, rms, halves, valueCount, history, values}
 use Rattle.reading.specs.Image.{lastSum}
@@ -132,13 +133,17 @@ module _ (s : Settings) (some : 0 < s .samples) where
           go false e = values-same (goes-on e)
 
     pub gathererOf-valid : Samples rec → ValidGatherer m (gathererOf s rec)
-    gathererOf-valid are = record {
-      count-lt = mod-lt (length rec) some;
-      sum-le = omega (arith, squares-le (drop start rec) (samples-drop start rec are), length-drop start rec, base);
-      last-le = last-le (halves s rec);
-      last-none = λ p. let e : halves s rec ≡ 0 = omega (arith, ltb-false 0 (halves s rec) p) in ap (lastSum s rec) e;
-    }
+    gathererOf-valid are = (
+      mod-lt (length rec) some,
+      (
+        omega (arith, squares-le (drop start rec) (samples-drop start rec are), length-drop start rec, base),
+        (last-le (halves s rec), (flag-most (0 <ᵇ halves s rec), λ p. ap (lastSum s rec) (none p))),
+      ),
+    )
       where
+        none : flag (0 <ᵇ halves s rec) ≡ 0 → halves s rec ≡ 0
+        none p = omega (arith, ltb-false 0 (halves s rec) (flag-none (0 <ᵇ halves s rec) p))
+
         last-le : (h : ℕ) → lastSum s rec h ≤ m * 2 ^ 30
         last-le zero = omega arith
         last-le (suc h) = energy-le s rec are (suc h)

@@ -1,6 +1,6 @@
 -- The laws of the gatherer's steps: a part adds up with the sample before it, what holds of a gatherer is kept, and the value that comes out is small.
 use mathlib.Core.Path.{_≡_, refl}
-use mathlib.Core.Bool.{Bool, true, false, true≢false}
+use mathlib.Core.Bool.{Bool, true, false}
 use mathlib.Core.List.{List, [], _∷_}
 use Prim.Native.Nat.{ℕ, _+_, _*_, _^_, _≤_, _<_}
 use native.Mathlib.Omega.{arith}
@@ -61,10 +61,10 @@ module _ (m : ℕ) (g : Gatherer) (p : Part) (v : ValidGatherer m g) (fits : Par
   sum-le = omega arith
 
   pub withPart-valid : g .count + p .count < m → ValidGatherer m (withPart g p)
-  withPart-valid h = record { count-lt = h; sum-le = omega arith; last-le = v .last-le; last-none = v .last-none }
+  withPart-valid h = (h, (omega arith, v .1 .1))
 
   pub withHalf-valid : ValidGatherer m (withHalf g p)
-  withHalf-valid = record { count-lt = omega arith; sum-le = omega arith; last-le = sum-le; last-none = λ e. absurd (true≢false e) }
+  withHalf-valid = (omega arith, (omega arith, (sum-le, (omega arith, λ e. absurd (omega arith)))))
 
   pub value-le : rms m (g .last) (g .sum + p .squares) ≤ 524288
-  value-le = rms-le m (g .last) (g .sum + p .squares) (omega arith) (v .last-le) sum-le
+  value-le = rms-le m (g .last) (g .sum + p .squares) (omega arith) (v .1 .1 .0) sum-le

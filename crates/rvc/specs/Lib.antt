@@ -1,4 +1,5 @@
 pub mod Phase
+pub mod PhaseRules
 pub mod PhaseLaws
 pub mod ChangeFollows
 pub mod PhaseFollows

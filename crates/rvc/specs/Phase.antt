@@ -1,10 +1,10 @@
 -- One value's step of the phase, and what a history leaves of it.
-use mathlib.Core.Path.{_≡_}
 use mathlib.Core.Bool.{Bool, false, _&&_, _||_}
-use mathlib.Core.List.{List}
+use mathlib.Core.List.{List, [], _∷_}
 use Prim.Native.Nat.{ℕ, suc, _-_, _*_, _≤_, _<_, max}
 use lib.ListN.{length, take}
 use Rattle.numbers.specs.Notation.{_≤ᵇ_, _<ᵇ_, _≡ᵇ_, if_then_else_}
+use Rattle.numbers.specs.Rules.{Holds}
 use Rattle.settings.specs.declared.Settings.{Settings}
 use Rattle.settings.specs.declared.Scaled.{Scaled}
 use Rattle.settings.specs.Settings.{windowLength}
@@ -12,6 +12,7 @@ use Rattle.reading.specs.declared.Kind.the-variants.{Dip, Swell}
 use Rattle.reading.specs.Thresholds.{standsSince}
 use Rattle.reading.specs.Changes.{sum, gap, calm, Signal, signal, sumBefore, greatestDifference, firstStand}
 use Rattle.reading.specs.Changes.Signal.{filling, unsettled, steady, changing}
+use Rattle.reading.specs.Restore.{changeRule, phaseRule}
 use Rattle.threshold.specs.declared.Ended.{Ended}
 use Rattle.threshold.specs.declared.Ended.the-variants.{Nothing, Over}
 use Rattle.window.specs.Window.{pushed, leaving}
@@ -128,18 +129,19 @@ pub record Joins (t : Scaled) (n : ℕ) (j : Joining) (p : Phase) : Type 0 where
   pub after-le : j .after ≤ 62914560
   pub limit-le : limitOf t p ≤ 3774873
 
--- what refusal 11 allows of a change, and of a phase, in a window of n values, after v of them
-pub record ValidChange (n v : ℕ) (c : Change) : Type 0 where
-  pub late : n < c .start
-  pub seen : c .start ≤ v
-  pub sum-le : c .sum ≤ n * 524288
-  pub difference-le : c .difference ≤ n * 524288
-  pub early : v - c .start < n → c .difference ≡ 0
-  pub stand-le : c .stand ≤ v
-  pub stand-from : 0 < c .stand → c .start ≤ c .stand
+-- a change and a phase in the numbers of body 4
+abbrev pub changeRow : Change → List ℕ
+changeRow c = c .start ∷ c .sum ∷ c .difference ∷ c .stand ∷ []
+
+abbrev pub phaseRow : Phase → List ℕ
+phaseRow Filling = 0 ∷ 0 ∷ 0 ∷ 0 ∷ 0 ∷ []
+phaseRow Unsettled = 1 ∷ 0 ∷ 0 ∷ 0 ∷ 0 ∷ []
+phaseRow Steady = 2 ∷ 0 ∷ 0 ∷ 0 ∷ 0 ∷ []
+phaseRow (Changing c) = 3 ∷ changeRow c
+
+-- what refusal 11 allows of them, in a window of n values, after v of them
+abbrev pub ValidChange : ℕ → ℕ → Change → Type 0
+ValidChange n v c = Holds (changeRule n v (changeRow c))
 
 abbrev pub ValidPhase : ℕ → ℕ → Phase → Type 0
-ValidPhase n v Filling = v < n
-ValidPhase n v Unsettled = n ≤ v
-ValidPhase n v Steady = n ≤ v
-ValidPhase n v (Changing c) = ValidChange n v c
+ValidPhase n v p = Holds (phaseRule n v (phaseRow p))

@@ -20,7 +20,8 @@ use Rattle.window.specs.RangeLaws.{calm-pushed}
 use Rattle.rvc.specs.declared.Joining.{Joining}
 use Rattle.rvc.specs.declared.Phase.{Phase}
 use Rattle.rvc.specs.declared.Phase.the-variants.{Filling, Unsettled, Steady, Changing}
-use Rattle.rvc.specs.Phase.{limitIn, limitOf, steadyBy, joiningOf, steadyAfter, Joins, ValidPhase}
+use Rattle.rvc.specs.Phase.{limitIn, limitOf, steadyBy, joiningOf, steadyAfter, Joins}
+use Rattle.rvc.specs.PhaseRules.{Allowed}
 
 -- the limit in force, scaled
 limitOf-is : (s : Settings) (p : Phase) → limitOf (scaledOf s) p ≡ limitIn s p * windowLength s * s .declared / 10000
@@ -64,7 +65,7 @@ module _ (s : Settings) (v : ℕ) (w : List ℕ) (r : ℕ) (stands : Bool) (wind
       let long : n ≤ length w = omega (arith, window .size, windowLength-most s) in
       (λ i. calmWith n (sum-after n v r w (windowLength-some s) full long i) (limitOf-is s p i) (staying n v w) r) ∙ sym (calm-pushed s (limitIn s p) v r w full long)
 
-  pub steady-is : (p : Phase) → ValidPhase n v p → steadyBy (scaledOf s) n (staying n v w) j p ≡ steadyAfter s v w r p
+  pub steady-is : (p : Phase) → Allowed n v p → steadyBy (scaledOf s) n (staying n v w) j p ≡ steadyAfter s v w r p
   steady-is Filling h = fills (suc v <ᵇ n) refl
     where
       fills : (b : Bool) → (suc v <ᵇ n) ≡ b →
@@ -73,4 +74,4 @@ module _ (s : Settings) (v : ℕ) (w : List ℕ) (r : ℕ) (stands : Bool) (wind
       fills false e = calm-is Filling (ltb-false _ _ e)
   steady-is Unsettled h = calm-is Unsettled (omega arith)
   steady-is Steady h = calm-is Steady (omega arith)
-  steady-is (Changing c) h = ap (λ (b : Bool). if suc v - c .start ≤ᵇ n then false else b) (calm-is (Changing c) (omega (arith, h .late, h .seen)))
+  steady-is (Changing c) h = ap (λ (b : Bool). if suc v - c .start ≤ᵇ n then false else b) (calm-is (Changing c) (omega (arith, h .0, h .1 .0)))

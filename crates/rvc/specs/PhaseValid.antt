@@ -2,7 +2,7 @@
 use mathlib.Core.Path.{_≡_, refl}
 use mathlib.Core.Bool.{Bool, true, false}
 use mathlib.Core.List.{List}
-use Prim.Native.Nat.{ℕ, suc, _-_, _*_, _≤_, _<_, max}
+use Prim.Native.Nat.{ℕ, suc, _+_, _-_, _*_, _≤_, _<_, max}
 use native.Mathlib.Omega.{arith}
 use native.Mathlib.Nat.{mul-le-mul-left}
 use borrow.Author.Tests.{ltb-true, ltb-false}
@@ -18,93 +18,71 @@ use Rattle.rvc.specs.declared.Phase.{Phase}
 use Rattle.rvc.specs.declared.Phase.the-variants.{Filling, Unsettled, Steady, Changing}
 use Rattle.rvc.specs.declared.Joining.{Joining}
 use Rattle.rvc.specs.Phase.{changeFrom, grown, joiningOf, steadyAfter, movedAfter, ValidChange, ValidPhase}
+use Rattle.rvc.specs.PhaseRules.{Allowed, allowed-valid, valid-allowed}
 
 module _ (n v : ℕ) (w : List ℕ) (r : ℕ) (stands : Bool) (window : ValidWindow n v w) where
   abbrev j : Joining
   j = joiningOf n v w r stands
 
   changeFrom-valid : n ≤ 120 → n ≤ v → ValidChange n (suc v) (changeFrom j)
-  changeFrom-valid most full = record {
-    late = omega arith;
-    seen = omega arith;
-    sum-le = sum-le n v w most window;
-    difference-le = omega arith;
-    early = λ e. refl;
-    stand-le = below stands;
-    stand-from = from stands;
-  }
+  changeFrom-valid most full = (omega arith, (omega arith, (sum-le n v w most window, (omega arith, (λ e. refl, stand stands)))))
     where
-      below : (b : Bool) → (if b then suc v else 0) ≤ suc v
-      below true = omega arith
-      below false = omega arith
-
-      from : (b : Bool) → 0 < (if b then suc v else 0) → suc v ≤ (if b then suc v else 0)
-      from true h = omega arith
-      from false h = absurd (omega arith)
+      stand : (b : Bool) → 0 < (if b then suc v else 0) → (suc v ≤ (if b then suc v else 0)) × ((if b then suc v else 0) ≤ suc v)
+      stand true h = (omega arith, omega arith)
+      stand false h = absurd (omega arith)
 
   grown-valid : (c : Change) → ValidChange n v c → ValidChange n (suc v) (grown n j c)
-  grown-valid c valid = record {
-    late = valid .late;
-    seen = omega arith;
-    sum-le = valid .sum-le;
-    difference-le = grows (suc v - c .start <ᵇ n);
-    early = λ e. stays e (suc v - c .start <ᵇ n) refl;
-    stand-le = below (0 <ᵇ c .stand) stands;
-    stand-from = from (0 <ᵇ c .stand) stands;
-  }
+  grown-valid c (late, (seen, (sum-small, (difference-small, (early, stood))))) =
+      (late, (omega arith, (sum-small, (grows (suc v - c .start <ᵇ n), (λ e. stays e (suc v - c .start <ᵇ n) refl, stand (0 <ᵇ c .stand) stands refl)))))
     where
       difference : Bool → ℕ
       difference b = if b then c .difference else max (gap (n * leaving n v w) (c .sum)) (c .difference)
 
       grows : (b : Bool) → difference b ≤ n * 524288
-      grows true = valid .difference-le
-      grows false =
-          let h : n * leaving n v w ≤ n * 524288 = mul-le-mul-left n (leaving-le n v w window) in
-          omega (arith, valid .sum-le, valid .difference-le)
+      grows true = difference-small
+      grows false = let h : n * leaving n v w ≤ n * 524288 = mul-le-mul-left n (leaving-le n v w window) in omega arith
 
-      stays : suc v - c .start < n → (b : Bool) → (suc v - c .start <ᵇ n) ≡ b → difference b ≡ 0
-      stays e true f = valid .early (omega arith)
+      stays : suc v < c .start + n → (b : Bool) → (suc v - c .start <ᵇ n) ≡ b → difference b ≡ 0
+      stays e true f = early (omega arith)
       stays e false f = absurd (omega (arith, ltb-false (suc v - c .start) n f))
 
-      stand : Bool → Bool → ℕ
-      stand b here = if b then c .stand else if here then suc v else 0
-
-      below : (b here : Bool) → stand b here ≤ suc v
-      below true here = omega (arith, valid .stand-le)
-      below false true = omega arith
-      below false false = omega arith
-
-      from : (b here : Bool) → 0 < stand b here → c .start ≤ stand b here
-      from true here h = valid .stand-from h
-      from false true h = omega (arith, valid .seen)
-      from false false h = absurd (omega arith)
+      stand : (b here : Bool) → (0 <ᵇ c .stand) ≡ b → let at = if b then c .stand else if here then suc v else 0 in 0 < at → (c .start ≤ at) × (at ≤ suc v)
+      stand true here f h = let s = stood h in (s .0, omega (arith, s .1))
+      stand false true f h = (omega arith, omega arith)
+      stand false false f h = absurd (omega arith)
 
 pub phase-valid : (s : Settings) (v : ℕ) (w : List ℕ) (r : ℕ) (stands : Bool) (p : Phase) → ValidWindow (windowLength s) v w → ValidPhase (windowLength s) v p →
     ValidPhase (windowLength s) (suc v) (movedAfter s v w r stands p .phase)
-phase-valid s v w r stands p window valid = go p valid
+phase-valid s v w r stands p window valid = allowed-valid n (suc v) (movedAfter s v w r stands p .phase) (go p (valid-allowed n v p valid))
   where
     n : ℕ
     n = windowLength s
 
-    go : (p : Phase) → ValidPhase n v p → ValidPhase n (suc v) (movedAfter s v w r stands p .phase)
+    Before : Phase → Type 0
+    Before q = Allowed n v q
+
+    After : Phase → Type 0
+    After q = Allowed n (suc v) q
+
+    go : (p : Phase) → Before p → After (movedAfter s v w r stands p .phase)
     go Filling h = fills (suc v <ᵇ n) (calm s (s .limit) (pushed n v w r)) refl
       where
-        fills : (b c : Bool) → (suc v <ᵇ n) ≡ b → ValidPhase n (suc v) (if (if b then false else c) then Steady else if b then Filling else Unsettled)
+        fills : (b c : Bool) → (suc v <ᵇ n) ≡ b → After (if (if b then false else c) then Steady else if b then Filling else Unsettled)
         fills true c e = ltb-true (suc v) n e
         fills false true e = ltb-false (suc v) n e
         fills false false e = ltb-false (suc v) n e
     go Unsettled h = settles (calm s (s .limit) (pushed n v w r))
       where
-        settles : (c : Bool) → ValidPhase n (suc v) (if c then Steady else Unsettled)
+        settles : (c : Bool) → After (if c then Steady else Unsettled)
         settles true = omega arith
         settles false = omega arith
     go Steady h = leaves (calm s (s .limit) (pushed n v w r))
       where
-        leaves : (c : Bool) → ValidPhase n (suc v) (if c then Steady else Changing (changeFrom (joiningOf n v w r stands)))
+        leaves : (c : Bool) → After (if c then Steady else Changing (changeFrom (joiningOf n v w r stands)))
         leaves true = omega arith
         leaves false = changeFrom-valid n v w r stands window (windowLength-most s) h
     go (Changing c) h = stays (steadyAfter s v w r (Changing c))
       where
-        stays : (b : Bool) → ValidPhase n (suc v) (if b then Steady else Changing (grown n (joiningOf n v w r stands) c))
-        stays true = omega (arith, h .late, h .seen)
+        stays : (b : Bool) → After (if b then Steady else Changing (grown n (joiningOf n v w r stands) c))
+        stays true = omega (arith, h .0, h .1 .0)
         stays false = grown-valid n v w r stands window c h

@@ -2,10 +2,12 @@
 use mathlib.Core.Path.{_≡_}
 use mathlib.Core.Bool.{Bool, _&&_, _||_, true}
 use mathlib.Core.List.{List, [], _∷_}
-use Prim.Native.Nat.{ℕ, zero, suc, _+_, _-_, _*_, _/_, _≤_, _<_}
-use lib.ListN.{length}
-use Rattle.octets.specs.Bytes.{words, numberAt}
+use Prim.Native.Nat.{ℕ, _+_, _-_, _*_, _/_, _≤_, _<_}
+use lib.ListN.{length, getD, replicate}
+use Rattle.octets.specs.Bytes.{row, numbersIn, total}
 use Rattle.numbers.specs.Notation.{_≤ᵇ_, _<ᵇ_, _≡ᵇ_, if_then_else_, refuse_unless_then_}
+use Rattle.numbers.specs.Answers.{Answered, answered}
+use Rattle.numbers.specs.Answers.Answered.{accepted, refused}
 use Rattle.settings.specs.declared.Settings.{Settings}
 use Rattle.settings.specs.declared.SettingsRead.{SettingsRead}
 use Rattle.settings.specs.declared.SettingsRead.the-variants.{Read, Refused}
@@ -19,22 +21,32 @@ windowLength s = if s .frequency ≡ᵇ 50 then 100 else 120
 abbrev pub numbersOf : Settings → List ℕ
 numbersOf s = s .samples ∷ s .frequency ∷ s .declared ∷ s .limit ∷ s .reduction ∷ s .interruption ∷ s .dip ∷ s .swell ∷ s .hysteresis ∷ []
 
--- the settings as 36 bytes, and the settings that 36 bytes are, in range or not
+abbrev pub settingsFrom : List ℕ → Settings
+settingsFrom ns = record {
+  samples = getD ns 0 0;
+  frequency = getD ns 1 0;
+  declared = getD ns 2 0;
+  limit = getD ns 3 0;
+  reduction = getD ns 4 0;
+  interruption = getD ns 5 0;
+  dip = getD ns 6 0;
+  swell = getD ns 7 0;
+  hysteresis = getD ns 8 0;
+}
+
+-- nine numbers of 4 bytes: 36 bytes in all
+abbrev pub settingsWidths : List ℕ
+settingsWidths = replicate 9 4
+
+abbrev pub settingsLength : ℕ
+settingsLength = total settingsWidths
+
+-- the settings as bytes, and the settings that bytes are, in range or not
 abbrev pub settingsBytes : Settings → List ℕ
-settingsBytes s = words (numbersOf s)
+settingsBytes s = row settingsWidths (numbersOf s)
 
 abbrev pub settingsOf : List ℕ → Settings
-settingsOf b = record {
-  samples = numberAt 0 4 b;
-  frequency = numberAt 4 4 b;
-  declared = numberAt 8 4 b;
-  limit = numberAt 12 4 b;
-  reduction = numberAt 16 4 b;
-  interruption = numberAt 20 4 b;
-  dip = numberAt 24 4 b;
-  swell = numberAt 28 4 b;
-  hysteresis = numberAt 32 4 b;
-}
+settingsOf b = settingsFrom (numbersIn settingsWidths b)
 
 -- M is 8 to 256
 unfoldable pub samplesGood : Settings → Bool
@@ -70,17 +82,18 @@ settingsRefusal s =
     refuse 6 unless levelsGood s && orderGood s then
     0
 
--- with the length: 36 bytes
+-- with the length first
 unfoldable pub startRefusal : List ℕ → ℕ
-startRefusal b = refuse 1 unless length b ≡ᵇ 36 then settingsRefusal (settingsOf b)
+startRefusal b = refuse 1 unless length b ≡ᵇ settingsLength then settingsRefusal (settingsOf b)
 
--- the answer to settings bytes: the settings, or 01's number of the refusal
-abbrev pub answerOf : ℕ → Settings → SettingsRead
-answerOf zero s = Read s
-answerOf (suc n) s = Refused (suc n)
+-- the answer to settings bytes: the settings, or the refusal
+unfoldable pub settingsRead : List ℕ → Answered Settings
+settingsRead b = answered (startRefusal b) (settingsOf b)
 
-unfoldable pub settingsRead : List ℕ → SettingsRead
-settingsRead b = answerOf (startRefusal b) (settingsOf b)
+-- and in the code's words
+abbrev pub settingsTold : SettingsRead → Answered Settings
+settingsTold (Read s) = accepted s
+settingsTold (Refused n) = refused n
 
 -- the levels scaled for exact comparison with 10,000 × r, and the RVC limits for one with |N × r − A|: 10,000 × x ≤ t exactly where x ≤ t / 10,000
 abbrev pub scaledOf : Settings → Scaled

@@ -1,20 +1,23 @@
 -- Settings that start accepts, as facts; settings to bytes and back, both ways; and what an answer tells.
 use mathlib.Core.Path.{_≡_, refl, sym, _∙_, ap, ap₂}
+use mathlib.Core.Logic.{_≢_}
 use mathlib.Core.Bool.{Bool, true, false, _&&_, _||_}
-use mathlib.Core.List.{List, [], append-nil}
-use Prim.Native.Nat.{ℕ, zero, suc, _+_, _*_, _≤_, _<_}
+use mathlib.Core.List.{List}
+use Prim.Native.Nat.{ℕ, _+_, _*_, _≤_, _<_}
 use native.Mathlib.Omega.{arith}
-use lib.ListN.{length, take, getD}
-use lib.Seq.{take-length}
+use lib.ListN.{length}
 use borrow.Author.Tests.{eqb-true, eq-eqb, leb-true, le-leb, ltb-true, lt-ltb}
 use Rattle.octets.specs.Bytes.{Bytes}
-use Rattle.octets.specs.BytesLaws.{Words, length-words, wordsAt-words, words-wordsAt}
+use Rattle.octets.specs.RowLaws.{Fit, length-row, numbersIn-row, row-numbersIn}
 use Rattle.numbers.specs.Notation.{_≤ᵇ_, _<ᵇ_, _≡ᵇ_, if_then_else_}
 use Rattle.numbers.specs.NotationLaws.{and-true, and-left, and-right, refuse-passes, refuse-none}
-use Rattle.settings.specs.Settings.{windowLength, numbersOf, settingsBytes, settingsOf, settingsRefusal, startRefusal, answerOf, settingsRead, ValidSettings}
+use Rattle.numbers.specs.Answers.{answered}
+use Rattle.numbers.specs.Answers.Answered.{accepted, refused}
+use Rattle.numbers.specs.AnswersLaws.{accepted-is, refused-is}
+use Rattle.settings.specs.Settings.{windowLength, numbersOf, settingsFrom, settingsWidths, settingsLength, settingsBytes, settingsOf, ValidSettings}
+use Rattle.settings.specs.Settings.{settingsRefusal, startRefusal, settingsRead}
 use Rattle.settings.specs.Settings.{samplesGood, frequencyGood, declaredGood, limitGood, levelsGood, orderGood}
 use Rattle.settings.specs.declared.Settings.{Settings}
-use Rattle.settings.specs.declared.SettingsRead.the-variants.{Read, Refused}
 
 -- the window has 100 or 120 values
 pub windowLength-some : (s : Settings) → 0 < windowLength s
@@ -91,67 +94,54 @@ module _ (s : Settings) where
       go false p q = omega (arith, eqb-true (s .frequency) 60 q)
 
   -- each of the nine numbers fits 4 bytes
-  pub valid-words : ValidSettings s → Words (numbersOf s)
-  valid-words v = let f = frequency-most v in
+  pub valid-fit : ValidSettings s → Fit settingsWidths (numbersOf s)
+  valid-fit v = let f = frequency-most v in
       (omega arith, (omega arith, (omega arith, (omega arith, (omega arith, (omega arith, (omega arith, (omega arith, (omega arith, tt)))))))))
-
--- the settings that nine numbers are
-abbrev pub settingsFrom : List ℕ → Settings
-settingsFrom ns = record {
-  samples = getD ns 0 0;
-  frequency = getD ns 1 0;
-  declared = getD ns 2 0;
-  limit = getD ns 3 0;
-  reduction = getD ns 4 0;
-  interruption = getD ns 5 0;
-  dip = getD ns 6 0;
-  swell = getD ns 7 0;
-  hysteresis = getD ns 8 0;
-}
 
 -- settings → bytes → settings
 pub settingsOf-settingsBytes : (s : Settings) → ValidSettings s → settingsOf (settingsBytes s) ≡ s
-settingsOf-settingsBytes s v = ap settingsFrom (wordsAt-words (settingsBytes s) 0 (numbersOf s) [] (sym (append-nil (settingsBytes s))) (valid-words s v))
+settingsOf-settingsBytes s v = ap settingsFrom (numbersIn-row settingsWidths (numbersOf s) (valid-fit s v))
 
-pub settingsRead-settingsBytes : (s : Settings) → ValidSettings s → settingsRead (settingsBytes s) ≡ Read s
+pub length-settingsBytes : (s : Settings) → length (settingsBytes s) ≡ settingsLength
+length-settingsBytes s = length-row settingsWidths (numbersOf s) refl
+
+pub settingsRead-settingsBytes : (s : Settings) → ValidSettings s → settingsRead (settingsBytes s) ≡ accepted s
 unfolding settingsRead startRefusal
 settingsRead-settingsBytes s v =
     let e = settingsOf-settingsBytes s v in
-    let l : length (settingsBytes s) ≡ 36 = length-words (numbersOf s) in
     let n : startRefusal (settingsBytes s) ≡ 0 =
-    refuse-passes 1 _ (eq-eqb (length (settingsBytes s)) 36 l) ∙ (ap settingsRefusal e ∙ valid-refusal s v) in
-    ap₂ answerOf n e
+    refuse-passes 1 _ (eq-eqb (length (settingsBytes s)) settingsLength (length-settingsBytes s)) ∙ (ap settingsRefusal e ∙ valid-refusal s v) in
+    ap₂ answered n e
 
--- what an answer tells
+-- what an accepted answer tells
 module _ (b : List ℕ) where
   pub record Accepted (s : Settings) : Type 0 where
     pub none : startRefusal b ≡ 0
-    pub long : length b ≡ 36
+    pub long : length b ≡ settingsLength
     pub settings-are : s ≡ settingsOf b
     pub valid : ValidSettings s
 
-  pub read-accepted : (s : Settings) → settingsRead b ≡ Read s → Accepted s
+  pub read-accepted : (s : Settings) → settingsRead b ≡ accepted s → Accepted s
   unfolding settingsRead startRefusal
-  read-accepted s e = go (startRefusal b) refl e
-    where
-      go : (n : ℕ) → startRefusal b ≡ n → answerOf n (settingsOf b) ≡ Read s → Accepted s
-      go zero p q =
-          let r = refuse-none 1 (length b ≡ᵇ 36) (settingsRefusal (settingsOf b)) (omega arith) p in
-          let same : settingsOf b ≡ s = cc in
-          record { none = p; long = eqb-true _ _ (r .0); settings-are = sym same; valid = refusal-valid s (ap settingsRefusal (sym same) ∙ r .1) }
-      go (suc n) p q = let z : _≡_ {A = ℕ} 0 1 = cc in absurd (omega arith)
+  read-accepted s e =
+      let is = accepted-is (startRefusal b) (settingsOf b) s e in
+      let r = refuse-none 1 (length b ≡ᵇ settingsLength) (settingsRefusal (settingsOf b)) (omega arith) (is .0) in
+      record {
+        none = is .0;
+        long = eqb-true _ _ (r .0);
+        settings-are = sym (is .1);
+        valid = refusal-valid s (ap settingsRefusal (sym (is .1)) ∙ r .1);
+      }
 
   -- bytes → settings → bytes
-  pub settingsBytes-settingsRead : Bytes b → (s : Settings) → settingsRead b ≡ Read s → settingsBytes s ≡ b
+  pub settingsBytes-settingsRead : Bytes b → (s : Settings) → settingsRead b ≡ accepted s → settingsBytes s ≡ b
   settingsBytes-settingsRead are s e =
       let a = read-accepted s e in
-      let l = a .long in
-      ap settingsBytes (a .settings-are) ∙ (words-wordsAt b are 0 9 (omega arith) ∙ (ap (λ (n : ℕ). take n b) (sym l) ∙ take-length b))
+      ap settingsBytes (a .settings-are) ∙ row-numbersIn settingsWidths b are (a .long)
 
-  pub refused-refusal : (n : ℕ) → settingsRead b ≡ Refused n → startRefusal b ≡ n
+  -- a refusal is start's number, and not 0
+  pub read-refused : (n : ℕ) → settingsRead b ≡ refused n → (startRefusal b ≡ n) × (n ≢ 0)
   unfolding settingsRead
-  refused-refusal n e = go (startRefusal b) refl e
-    where
-      go : (k : ℕ) → startRefusal b ≡ k → answerOf k (settingsOf b) ≡ Refused n → startRefusal b ≡ n
-      go zero p q = let z : _≡_ {A = ℕ} 0 1 = cc in absurd (omega arith)
-      go (suc k) p q = let same : suc k ≡ n = cc in p ∙ same
+  read-refused n e =
+      let is = refused-is (startRefusal b) n (settingsOf b) e in
+      (is .0, λ z. omega (arith, is .1))

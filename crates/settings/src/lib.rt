@@ -2,7 +2,8 @@
 ghost use mathlib.Core.Path.{_≡_};
 ghost use Prim.Native.Nat.{_*_, _≤_, _/_};
 ghost use lib.ListN.{length};
-ghost use Rattle.settings.specs.Settings.{windowLength, settingsBytes, settingsOf, settingsRefusal, settingsRead, scaledOf, ValidSettings};
+ghost use Rattle.settings.specs.Settings.{windowLength, settingsLength, settingsBytes, settingsOf, settingsRefusal, settingsRead, settingsTold};
+ghost use Rattle.settings.specs.Settings.{scaledOf, ValidSettings};
 ghost use Rattle.settings.specs.Settings.{samplesGood, frequencyGood, declaredGood, limitGood, levelsGood, orderGood};
 
 // In 01's order: M, F, U, T, H, I, D, W, G.
@@ -73,7 +74,7 @@ impl Settings {
     pub const WINDOW_60: u64 = 120;
 
     pub fn from_bytes(bytes: &[u8]) -> SettingsRead
-        ensures { λ r. ⌜ r ≡ settingsRead (now (bytes .entry)) ⌝ }
+        ensures { λ r. ⌜ settingsTold r ≡ settingsRead (now (bytes .entry)) ⌝ }
     {
         if bytes.len() != Settings::LENGTH {
             return SettingsRead::Refused(1);
@@ -89,7 +90,7 @@ impl Settings {
 
     // Writes the settings into their part of an image.
     pub fn write(self, part: &mut [u8])
-        requires { ⌜ length (now part) ≡ 36 ⌝ }
+        requires { ⌜ length (now part) ≡ settingsLength ⌝ }
         ensures { λ _. ⌜ now (part .exit) ≡ settingsBytes self ⌝ }
     {
         let numbers = [
@@ -150,9 +151,9 @@ impl Settings {
         limit as u64 * self.window_length() * self.declared as u64 / 10_000
     }
 
-    // The settings that 36 bytes are, in range or not.
+    // The settings that bytes are, in range or not.
     fn unchecked(bytes: &[u8]) -> Settings
-        requires { ⌜ length (now bytes) ≡ 36 ⌝ }
+        requires { ⌜ length (now bytes) ≡ settingsLength ⌝ }
         ensures { λ r. ⌜ r ≡ settingsOf (now (bytes .entry)) ⌝ }
     {
         let mut numbers = [0u32; 9];

@@ -4,7 +4,7 @@ use Prim.Native.Nat.{ℕ}
 use lib.ListN.{length}
 use lib.IntN.{ℤ}
 use Rattle.reading.specs.Records.{recordBytes}
-use Rattle.reading.specs.Feed.{Outcome}
+use Rattle.reading.specs.Calls.{Outcome}
 use Rattle.reading.specs.Engineer.{over, room}
 use Rattle.greedy.specs.Greedy.{Run, fedBy}
 use Rattle.state.specs.declared.State.{State}

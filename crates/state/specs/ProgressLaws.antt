@@ -14,8 +14,9 @@ use Rattle.numbers.specs.Notation.{_≡ᵇ_, if_then_else_}
 use Rattle.reading.specs.declared.Event.{Event}
 use Rattle.reading.specs.declared.Told.{Told}
 use Rattle.reading.specs.Records.{recordBytes}
-use Rattle.reading.specs.Feed.{Outcome}
+use Rattle.reading.specs.Calls.{Outcome}
 use Rattle.reading.specs.Engineer.{over, room}
+use Rattle.reading.specs.Layout.{recordLength}
 use Rattle.records.specs.DueLaws.{placed-records}
 use Rattle.greedy.specs.Greedy.{Run, joined, fedBy}
 use Rattle.greedy.specs.GreedyLaws.{Bounded, andThen, joined-joined, fedBy-append, fedBy-bounded}
@@ -62,7 +63,7 @@ module _ {st₀ : State} {block : List ℤ} {lent : List ℕ} {st : State} {at w
   -- n samples more, with the events es, and then the rest
   pub progress-more : (n : ℕ) (es : List Event) (st₁ : State) (out₁ : List ℕ) → at + n ≤ length block → length es ≤ room lent - written → ValidState st₁ →
       fedBy machine st (drop at block) (room lent - written) ≡ joined n es (fedBy machine st₁ (drop n (drop at block)) (room lent - written - length es)) →
-      out₁ ≡ take (20 * written) out ++ over (recordBytes es) (drop (20 * written) out) → Progress st₀ block lent st₁ (at + n) (written + length es) out₁
+      out₁ ≡ take (recordLength * written) out ++ over (recordBytes es) (drop (recordLength * written) out) → Progress st₀ block lent st₁ (at + n) (written + length es) out₁
   progress-more n es st₁ out₁ inside few ok step bytes-are =
       let c : written ≡ length (so-far .events) = so-far .count in
       let f : written ≤ room lent = so-far .fits in
@@ -78,25 +79,25 @@ module _ {st₀ : State} {block : List ℤ} {lent : List ℕ} {st : State} {at w
             ∙ joined-joined machine at n (so-far .events) es (fedBy machine st₁ (drop n (drop at block)) (room lent - written - length es))
             ∙ (λ i. joined (at + n) (so-far .events ++ es) (fedBy machine st₁ (drop-drop n at block i) (later i)));
         count = omega (arith, length-append (so-far .events) es);
-        bytes = bytes-are ∙ placed-records (20 * written) (so-far .events) es lent out (omega arith) (so-far .bytes);
+        bytes = bytes-are ∙ placed-records (recordLength * written) (so-far .events) es lent out (omega arith) (so-far .bytes);
       }
 
   -- where it ends: what the rest gives is all
   pub progress-last : (r : Run State) (out₁ : List ℕ) → fedBy machine st (drop at block) (room lent - written) ≡ r →
-      out₁ ≡ take (20 * written) out ++ over (recordBytes (r .events)) (drop (20 * written) out) →
+      out₁ ≡ take (recordLength * written) out ++ over (recordBytes (r .events)) (drop (recordLength * written) out) →
       record { after = r .after; told = record { taken = at + r .taken; written = written + length (r .events); why = r .why }; bytes = out₁ } ≡ fedWith st₀ block lent
   unfolding fedWith
   progress-last r out₁ last bytes-are =
       let c : written ≡ length (so-far .events) = so-far .count in
       let n : written + length (r .events) ≡ length (so-far .events ++ r .events) = omega (arith, length-append (so-far .events) (r .events)) in
       let b : out₁ ≡ over (recordBytes (so-far .events ++ r .events)) lent =
-      bytes-are ∙ placed-records (20 * written) (so-far .events) (r .events) lent out (omega arith) (so-far .bytes) in
+      bytes-are ∙ placed-records (recordLength * written) (so-far .events) (r .events) lent out (omega arith) (so-far .bytes) in
       (λ i. record { after = r .after; told = record { taken = at + r .taken; written = n i; why = r .why }; bytes = b i })
       ∙ sym (ap (outcomeOf lent) (so-far .fed ∙ ap (joined at (so-far .events)) last))
 
   -- a chunk of the block, fed with the buffer behind the records written so far
   module _ (n : ℕ) (inside : at + n ≤ length block) (long : length out ≡ length lent) {end : State} {told : Told} {part : List ℕ} (ok : ValidState end)
-      (is : record { after = end; told = told; bytes = part } ≡ fedWith st (take n (drop at block)) (drop (20 * written) out)) where
+      (is : record { after = end; told = told; bytes = part } ≡ fedWith st (take n (drop at block)) (drop (recordLength * written) out)) where
     abbrev left : ℕ
     left = room lent - written
 
@@ -112,17 +113,17 @@ module _ {st₀ : State} {block : List ℤ} {lent : List ℕ} {st : State} {at w
     chunk-long : length chunk ≡ n
     chunk-long = length-take-le n (drop at block) (omega (arith, length-drop at block))
 
-    run-is : record { after = end; told = told; bytes = part } ≡ outcomeOf (drop (20 * written) out) run
+    run-is : record { after = end; told = told; bytes = part } ≡ outcomeOf (drop (recordLength * written) out) run
     unfolding fedWith
     run-is =
-        let room-is : room (drop (20 * written) out) ≡ left = omega (arith, length-drop (20 * written) out, so-far .fits) in
-        is ∙ ap (λ (k : ℕ). outcomeOf (drop (20 * written) out) (fedBy machine st chunk k)) room-is
+        let room-is : room (drop (recordLength * written) out) ≡ left = omega (arith, length-drop (recordLength * written) out, so-far .fits) in
+        is ∙ ap (λ (k : ℕ). outcomeOf (drop (recordLength * written) out) (fedBy machine st chunk k)) room-is
 
     told-is : told ≡ record { taken = run .taken; written = length (run .events); why = run .why }
     told-is = ap (λ (o : Outcome State). o .told) run-is
 
-    bytes-are : (out₁ : List ℕ) → out₁ ≡ take (20 * written) out ++ part → out₁ ≡ take (20 * written) out ++ over (recordBytes (run .events)) (drop (20 * written) out)
-    bytes-are out₁ e = e ∙ ap (λ (o : Outcome State). take (20 * written) out ++ o .bytes) run-is
+    bytes-are : (out₁ : List ℕ) → out₁ ≡ take (recordLength * written) out ++ part → out₁ ≡ take (recordLength * written) out ++ over (recordBytes (run .events)) (drop (recordLength * written) out)
+    bytes-are out₁ e = e ∙ ap (λ (o : Outcome State). take (recordLength * written) out ++ o .bytes) run-is
 
     both : fedBy machine st (drop at block) left ≡ andThen machine run (drop n (drop at block)) left
     both = ap (λ (b : List ℤ). fedBy machine st b left) (sym (take-append-drop n (drop at block))) ∙ fedBy-append machine chunk st (drop n (drop at block)) left
@@ -135,7 +136,7 @@ module _ {st₀ : State} {block : List ℤ} {lent : List ℕ} {st : State} {at w
     chunk-fits = omega (arith, ap (λ (t : Told). t .written) told-is, bounded .fits, so-far .fits)
 
     -- it is taken whole
-    pub chunk-more : told .why ≡ 0 → (out₁ : List ℕ) → out₁ ≡ take (20 * written) out ++ part → Progress st₀ block lent end (at + n) (written + told .written) out₁
+    pub chunk-more : told .why ≡ 0 → (out₁ : List ℕ) → out₁ ≡ take (recordLength * written) out ++ part → Progress st₀ block lent end (at + n) (written + told .written) out₁
     chunk-more none out₁ e =
         let whole : run .why ≡ 0 = sym (ap (λ (t : Told). t .why) told-is) ∙ none in
         let count : run .taken ≡ n = bounded .whole whole ∙ chunk-long in
@@ -149,7 +150,7 @@ module _ {st₀ : State} {block : List ℤ} {lent : List ℕ} {st : State} {at w
         (progress-more n (run .events) end out₁ inside (bounded .fits) ok step (bytes-are out₁ e))
 
     -- it is not, and so is the end
-    pub chunk-last : 0 < told .why → (out₁ : List ℕ) → out₁ ≡ take (20 * written) out ++ part →
+    pub chunk-last : 0 < told .why → (out₁ : List ℕ) → out₁ ≡ take (recordLength * written) out ++ part →
         record { after = end; told = record { taken = at + told .taken; written = written + told .written; why = told .why }; bytes = out₁ } ≡ fedWith st₀ block lent
     chunk-last some out₁ e =
         let rest : List ℤ = drop n (drop at block) in

@@ -1,29 +1,30 @@
 -- What a logger keeps: of a fresh one, of one that a recording leaves, what look tells of it, and what refusal 11 allows.
-use mathlib.Core.Path.{_≡_}
-use mathlib.Core.Bool.{false}
 use mathlib.Core.List.{List}
 use Prim.Native.Nat.{ℕ, _-_, _≤_, min}
 use lib.ListN.{replicate, getD}
 use lib.IntN.{ℤ}
-use Rattle.numbers.specs.Notation.{_<ᵇ_, if_then_else_}
+use Rattle.numbers.specs.Notation.{_<ᵇ_, flag, if_then_else_}
+use Rattle.numbers.specs.Rules.{Holds}
 use Rattle.settings.specs.declared.Settings.{Settings}
 use Rattle.settings.specs.Settings.{windowLength, ValidSettings}
 use Rattle.reading.specs.declared.Readings.{Readings}
 use Rattle.reading.specs.Values.{values}
 use Rattle.reading.specs.Changes.{windowSum}
 use Rattle.reading.specs.Feed.{lastValue}
+use Rattle.reading.specs.Restore.{wholeRule}
+use Rattle.reading.specs.Layout.{places}
 use Rattle.rms.specs.declared.Gatherer.{Gatherer}
 use Rattle.rms.specs.Gather.{noSample, gathererOf, ValidGatherer}
 use Rattle.window.specs.Window.{windowOf, ValidWindow}
 use Rattle.rvc.specs.declared.Phase.{Phase}
-use Rattle.rvc.specs.declared.Phase.the-variants.{Filling, Unsettled, Steady, Changing}
+use Rattle.rvc.specs.Phase.{phaseRow}
 use Rattle.detection.specs.declared.Detector.{Detector}
 use Rattle.detection.specs.Detection.{noValue, detectorOf, ValidDetector}
 use Rattle.state.specs.declared.State.{State}
 
 -- a fresh logger: it has taken no sample
 unfoldable pub fresh : Settings → State
-fresh s = record { settings = s; gatherer = noSample; detector = noValue; window = replicate 120 0 }
+fresh s = record { settings = s; gatherer = noSample; detector = noValue; window = replicate places 0 }
 
 -- a state in the parts that the code keeps it in
 abbrev pub stateWith : Settings → Gatherer → Detector → List ℕ → State
@@ -33,12 +34,9 @@ stateWith s g d w = record { settings = s; gatherer = g; detector = d; window = 
 abbrev pub stateOf : Settings → List ℤ → State
 stateOf s rec = stateWith s (gathererOf s rec) (detectorOf s (values s rec)) (windowOf (windowLength s) (values s rec))
 
--- look
+-- look: the phase's number is the first of its row
 abbrev pub phaseNumberOf : Phase → ℕ
-phaseNumberOf Filling = 0
-phaseNumberOf Unsettled = 1
-phaseNumberOf Steady = 2
-phaseNumberOf (Changing c) = 3
+phaseNumberOf p = getD (phaseRow p) 0 0
 
 unfoldable pub readingsOf : State → Readings
 readingsOf st =
@@ -61,4 +59,4 @@ pub record ValidState (st : State) : Type 0 where
   pub detector-valid : ValidDetector (windowLength (st .settings)) (st .detector)
   pub window-valid : ValidWindow (windowLength (st .settings)) (st .detector .count) (st .window)
   pub count-le : st .detector .count ≤ lastValue
-  pub none-whole : st .gatherer .whole ≡ false → st .detector .count ≡ 0
+  pub none-whole : Holds (wholeRule (flag (st .gatherer .whole)) (st .detector .count))

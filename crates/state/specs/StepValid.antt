@@ -1,14 +1,15 @@
--- What holds of every state: parts keep it, and the state that a recording leaves and the fresh one have it. One sample has at most four
--- records due, so with room for four a feed takes a sample before V's end.
-use mathlib.Core.Path.{_≡_, refl, sym, _∙_, ap}
-use mathlib.Core.Bool.{Bool, true, false, true≢false}
+-- What holds of every state: parts keep it, and the state that a recording leaves and the fresh one have it. A part has at most four records due, and passes V's
+-- end only where V is there.
+use mathlib.Core.Path.{_≡_, refl, ap}
+use mathlib.Core.Bool.{Bool, true, false}
 use mathlib.Core.List.{List, [], _∷_}
-use Prim.Native.Nat.{ℕ, zero, suc, _+_, _-_, _≤_, _<_}
+use Prim.Native.Nat.{ℕ, zero, suc, _+_, _≤_, _<_}
 use native.Mathlib.Omega.{arith}
 use lib.ListN.{length}
 use lib.IntN.{ℤ}
 use borrow.Author.Tests.{ltb-false, le-ltb}
-use Rattle.numbers.specs.Notation.{if_then_else_}
+use Rattle.numbers.specs.Notation.{_<ᵇ_, flag}
+use Rattle.numbers.specs.NotationLaws.{flag-none}
 use Rattle.settings.specs.declared.Settings.{Settings}
 use Rattle.settings.specs.Settings.{windowLength, ValidSettings}
 use Rattle.settings.specs.SettingsLaws.{windowLength-some, windowLength-most}
@@ -17,7 +18,7 @@ use Rattle.reading.specs.Feed.{lastValue}
 use Rattle.reading_laws.specs.RecordingsLaws.{length-history, value-le}
 use Rattle.rms.specs.declared.Part.{Part}
 use Rattle.rms.specs.declared.Gatherer.{Gatherer}
-use Rattle.rms.specs.Gather.{partOf, withHalf, ValidGatherer, PartFits}
+use Rattle.rms.specs.Gather.{withHalf, ValidGatherer, PartFits}
 use Rattle.rms.specs.GatherLaws.{value-none, value-one, value-most, withPart-valid, withHalf-valid}
 use Rattle.rms.specs.GatherLaws as gatherer
 use Rattle.rms.specs.GatherFollows.{gathererOf-valid}
@@ -25,12 +26,10 @@ use Rattle.window.specs.Window.{Small}
 use Rattle.window.specs.WindowValid.{pushed-valid, windowOf-valid}
 use Rattle.detection.specs.Detection.{detectorAfter}
 use Rattle.detection.specs.DetectionValid.{detectorAfter-valid, due-most, detectorOf-valid}
-use Rattle.greedy.specs.Greedy.{fedBy}
-use Rattle.greedy.specs.GreedyLaws.{fedBy-takes}
 use Rattle.greedy.specs.GreedyFollows.{Recording}
 use Rattle.state.specs.declared.State.{State}
 use Rattle.state.specs.State.{fresh, stateOf, ValidState}
-use Rattle.state.specs.Step.{withValue, withValues, dueOn, withGatherer, partJoined, valueOut, passesEnd, halfDue, halfJoined, endsHalf, machine}
+use Rattle.state.specs.Step.{withValue, withValues, dueOn, withGatherer, partJoined, valueOut, passesEnd, halfDue, halfJoined}
 use Rattle.state.specs.StepFollows.{halves-none, fresh-is}
 
 -- a value into a state
@@ -44,7 +43,7 @@ withValue-valid r st small whole below ok =
       detector-valid = detectorAfter-valid s r (st .detector) (st .window) small (ok .window-valid) (ok .detector-valid);
       window-valid = pushed-valid (windowLength s) (st .detector .count) r (st .window) (windowLength-some s) (windowLength-most s) small (ok .window-valid);
       count-le = below;
-      none-whole = λ w. absurd (true≢false (sym whole ∙ w));
+      none-whole = λ w. absurd (omega (arith, ap flag whole));
     }
 
 -- a part more, which leaves the half-cycle in progress or ends it
@@ -52,7 +51,7 @@ module _ (st : State) (p : Part) (ok : ValidState st) (fits : PartFits (st .sett
   abbrev m : ℕ
   m = st .settings .samples
 
-  withGatherer-valid : (g : Gatherer) → ValidGatherer m g → (g .whole ≡ false → st .gatherer .whole ≡ false) → ValidState (withGatherer st g)
+  withGatherer-valid : (g : Gatherer) → ValidGatherer m g → (flag (g .whole) ≡ 0 → flag (st .gatherer .whole) ≡ 0) → ValidState (withGatherer st g)
   withGatherer-valid g valid before = record {
     settings-valid = ok .settings-valid;
     gatherer-valid = valid;
@@ -73,7 +72,7 @@ module _ (st : State) (p : Part) (ok : ValidState st) (fits : PartFits (st .sett
       half = withGatherer st (withHalf (st .gatherer) p)
 
       half-valid : ValidState half
-      half-valid = withGatherer-valid _ (withHalf-valid m (st .gatherer) p (ok .gatherer-valid) fits) (λ w. absurd (true≢false w))
+      half-valid = withGatherer-valid _ (withHalf-valid m (st .gatherer) p (ok .gatherer-valid) fits) (λ w. absurd (omega arith))
 
       room : length (valueOut st p) + st .detector .count ≤ lastValue
       room = ltb-false lastValue (length (valueOut st p) + st .detector .count) within
@@ -101,7 +100,7 @@ stateOf-valid s rec valid recorded =
       detector-valid = detectorOf-valid s (values s rec) small;
       window-valid = windowOf-valid (windowLength s) (values s rec) (windowLength-some s) (windowLength-most s) small;
       count-le = omega (arith, l, recorded .within);
-      none-whole = λ w. omega (arith, l, ltb-false 0 (halves s rec) w);
+      none-whole = λ w. omega (arith, l, ltb-false 0 (halves s rec) (flag-none (0 <ᵇ halves s rec) w));
     }
 
 pub recording-none : (s : Settings) → Recording s []
@@ -122,20 +121,6 @@ halfDue-most st p = go (valueOut st p) (value-most (st .settings .samples) (st .
     go (r ∷ []) one = due-most (st .settings) r (st .detector) (st .window)
     go (r ∷ (q ∷ rs)) one = absurd (omega arith)
 
-within-end : (st : State) (p : Part) → st .detector .count < lastValue → passesEnd st p ≡ false
+pub within-end : (st : State) (p : Part) → st .detector .count < lastValue → passesEnd st p ≡ false
 unfolding passesEnd
 within-end st p below = le-ltb lastValue (length (valueOut st p) + st .detector .count) (omega (arith, value-most (st .settings .samples) (st .gatherer) p))
-
-pub takes-some : (st : State) (x : ℤ) (xs : List ℤ) (room : ℕ) → st .detector .count < lastValue → 4 ≤ room → 1 ≤ fedBy machine st (x ∷ xs) room .taken
-takes-some st x xs room below four = rw (fedBy-takes machine st x xs room (past-not (endsHalf st x)) (le-ltb room _ (fits (endsHalf st x)))) (omega arith)
-  where
-    p : Part
-    p = partOf (x ∷ [])
-
-    past-not : (b : Bool) → (if b then passesEnd st p else false) ≡ false
-    past-not true = within-end st p below
-    past-not false = refl
-
-    fits : (b : Bool) → length (if b then halfDue st p else []) ≤ room
-    fits true = omega (arith, halfDue-most st p)
-    fits false = omega arith

@@ -1,16 +1,17 @@
 -- One value's step of a dip, a swell or an interruption, and what a history leaves of it.
-use mathlib.Core.Path.{_≡_}
 use mathlib.Core.Bool.{Bool, _&&_}
 use mathlib.Core.List.{List, [], _∷_}
-use Prim.Native.Nat.{ℕ, zero, suc, _-_, _*_, min, max, _≤_}
+use Prim.Native.Nat.{ℕ, zero, suc, _-_, _*_, min, max}
 use Rattle.settings.specs.declared.Settings.{Settings}
 use Rattle.settings.specs.declared.Threshold.{Threshold}
 use Rattle.numbers.specs.Notation.{_≤ᵇ_, _<ᵇ_, _≡ᵇ_, if_then_else_}
+use Rattle.numbers.specs.Rules.{Holds}
 use Rattle.reading.specs.declared.Kind.{Kind}
 use Rattle.reading.specs.declared.Kind.the-variants.{Dip, Swell, Interruption}
 use Rattle.reading.specs.declared.Event.{Event}
 use Rattle.reading.specs.Values.{since}
 use Rattle.reading.specs.Thresholds.{standsSince, magnitude}
+use Rattle.reading.specs.Restore.{standingRule}
 use Rattle.threshold.specs.declared.Standing.{Standing}
 use Rattle.threshold.specs.declared.Ended.{Ended}
 use Rattle.threshold.specs.declared.Ended.the-variants.{Nothing, Over}
@@ -66,7 +67,5 @@ abbrev pub standingOf : Settings → Kind → List ℕ → Standing
 standingOf s k hist = record { start = standsSince s k hist; magnitude = magnitudeSince k (standsSince s k hist) hist }
 
 -- what refusal 11 allows of an event, after v values
-pub record ValidStanding (v : ℕ) (p : Standing) : Type 0 where
-  pub start-le : p .start ≤ v
-  pub magnitude-le : p .magnitude ≤ 524288
-  pub none-zero : p .start ≡ 0 → p .magnitude ≡ 0
+abbrev pub ValidStanding : ℕ → Standing → Type 0
+ValidStanding v p = Holds (standingRule v (p .start) (p .magnitude))

@@ -11,7 +11,7 @@ use Rattle.threshold.specs.declared.Standing.{Standing}
 use Rattle.threshold.specs.Standing.{worse, worsened, noEvent, stepped, ValidStanding}
 
 pub noEvent-valid : (v : ℕ) → ValidStanding v noEvent
-noEvent-valid v = record { start-le = omega arith; magnitude-le = omega arith; none-zero = λ e. refl }
+noEvent-valid v = (omega arith, (omega arith, λ e. refl))
 
 worse-le : (k : Kind) (a b : ℕ) → a ≤ 524288 → b ≤ 524288 → worse k a b ≤ 524288
 worse-le Dip a b p q = omega arith
@@ -20,11 +20,7 @@ worse-le Interruption a b p q = omega arith
 
 module _ (k : Kind) (v r : ℕ) (p : Standing) (r-le : r ≤ 524288) (valid : ValidStanding v p) where
   worsened-valid : (p .start ≡ 0 → ⊥) → ValidStanding (suc v) (worsened k r p)
-  worsened-valid some = record {
-    start-le = omega (arith, valid .start-le);
-    magnitude-le = worse-le k r (p .magnitude) r-le (valid .magnitude-le);
-    none-zero = λ e. absurd (some e);
-  }
+  worsened-valid some = (omega arith, (worse-le k r (p .magnitude) r-le (valid .1 .0), λ e. absurd (some e)))
 
   pub stepped-valid : (begins ends : Bool) → ValidStanding (suc v) (stepped k (suc v) r begins ends p)
   unfolding stepped
@@ -32,7 +28,7 @@ module _ (k : Kind) (v r : ℕ) (p : Standing) (r-le : r ≤ 524288) (valid : Va
     where
       go : (b e z : Bool) → (p .start ≡ᵇ 0) ≡ z →
           ValidStanding (suc v) (if b then (if z then record { start = suc v; magnitude = r } else worsened k r p) else if e then noEvent else if z then noEvent else worsened k r p)
-      go true e true h = record { start-le = omega arith; magnitude-le = r-le; none-zero = λ q. absurd (omega arith) }
+      go true e true h = (omega arith, (r-le, λ q. absurd (omega arith)))
       go true e false h = worsened-valid (eqb-false (p .start) 0 h)
       go false true z h = noEvent-valid (suc v)
       go false false true h = noEvent-valid (suc v)

@@ -1,9 +1,12 @@
 -- The window's step, and what a history leaves in it. The window has 120 places, of which the first N at most are used, oldest first.
 use mathlib.Core.Path.{_≡_}
 use mathlib.Core.List.{List, _∷_, _++_, reverse}
-use Prim.Native.Nat.{ℕ, _-_, min, _≤_}
+use Prim.Native.Nat.{ℕ, _-_, _≤_}
 use lib.ListN.{length, take, drop, set, replicate, getD}
 use Rattle.numbers.specs.Notation.{_<ᵇ_, if_then_else_}
+use Rattle.numbers.specs.Rules.{Holds}
+use Rattle.reading.specs.Layout.{places}
+use Rattle.reading.specs.Restore.{valueMost, placesRule}
 
 -- value r after v values, n of them kept
 abbrev pub pushed : ℕ → ℕ → List ℕ → ℕ → List ℕ
@@ -18,14 +21,13 @@ leaving n v w = if v <ᵇ n then 0 else getD w 0 0
 
 -- what a history leaves
 abbrev pub windowOf : ℕ → List ℕ → List ℕ
-windowOf n hist = let kept = reverse (take n hist) in kept ++ replicate (120 - length kept) 0
+windowOf n hist = let kept = reverse (take n hist) in kept ++ replicate (places - length kept) 0
 
 -- no value is above 524,288
 abbrev pub Small : List ℕ → Type 0
-Small l = (i : ℕ) → getD l i 0 ≤ 524288
+Small l = (i : ℕ) → getD l i 0 ≤ valueMost
 
--- what refusal 11 allows of the window of n, after v values: 120 places, values that are small, and 0 in each place that is not used
+-- what refusal 11 allows of the places of a window of n, after v values
 pub record ValidWindow (n v : ℕ) (w : List ℕ) : Type 0 where
-  pub size : length w ≡ 120
-  pub most : Small w
-  pub unused : (i : ℕ) → min v n ≤ i → getD w i 0 ≡ 0
+  pub size : length w ≡ places
+  pub allowed : Holds (placesRule n v w)

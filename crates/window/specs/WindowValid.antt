@@ -9,6 +9,7 @@ use lib.Seq.{getD-set-other, getD-append-add, getD-drop, length-take-le}
 use borrow.Author.Tests.{ltb-true, ltb-false}
 use Rattle.numbers.specs.Notation.{_<ᵇ_, if_then_else_}
 use Rattle.reading.specs.Changes.{sum}
+use Rattle.reading.specs.Layout.{places}
 use Rattle.window.specs.Window.{pushed, leaving, windowOf, Small, ValidWindow}
 use Rattle.window.specs.WindowLaws.{sum-append}
 use Rattle.window.specs.WindowFollows.{windowOf-none, window-follows}
@@ -39,44 +40,49 @@ small-set (x ∷ l) zero r p q (suc i) = p (suc i)
 small-set (x ∷ l) (suc h) r p q zero = p zero
 small-set (x ∷ l) (suc h) r p q (suc i) = small-set l h r (λ j. p (suc j)) q i
 
+-- what the rule says: values are small, and a place that is not used is 0
+module _ {n v : ℕ} {w : List ℕ} where
+  pub unused : ValidWindow n v w → (i : ℕ) → min v n ≤ i → getD w i 0 ≡ 0
+  unused valid i h = let e : i ≡ min v n + (i - min v n) = omega arith in rw e (sym (getD-drop (min v n) w (i - min v n) 0) ∙ valid .allowed .1 (i - min v n))
+
+  allow : length w ≡ places → Small w → ((i : ℕ) → min v n ≤ i → getD w i 0 ≡ 0) → ValidWindow n v w
+  allow size small none = record { size = size; allowed = (small, λ i. getD-drop (min v n) w i 0 ∙ none (min v n + i) (omega arith)) }
+
 -- a value more, while places are free
 filling-valid : (n v r : ℕ) (w : List ℕ) → n ≤ 120 → v < n → r ≤ 524288 → ValidWindow n v w → ValidWindow n (suc v) (set w v r)
 filling-valid n v r w fits few small valid =
-    record {
-      size = length-set w v r ∙ valid .size;
-      most = small-set w v r (valid .most) small;
-      unused = λ i h. getD-set-other w v i r 0 (omega arith) ∙ valid .unused i (omega arith);
-    }
+    allow (length-set w v r ∙ valid .size) (small-set w v r (valid .allowed .0) small)
+    (λ i h. getD-set-other w v i r 0 (omega arith) ∙ unused valid i (omega arith))
 
 -- and once all are used
 full-valid : (m v r : ℕ) (w : List ℕ) → suc m ≤ 120 → suc m ≤ v → r ≤ 524288 → ValidWindow (suc m) v w →
     ValidWindow (suc m) (suc v) (take (suc m - 1) (drop 1 w) ++ (r ∷ drop (suc m) w))
 full-valid m v r w fits full small valid =
     let d : suc m - 1 ≡ m = omega arith in
-    rw d (record { size = size; most = most; unused = unused })
+    rw d (allow size most none)
   where
     stay : length (take m (drop 1 w)) ≡ m
     stay =
-        let z : length w ≡ 120 = valid .size in
+        let z : length w ≡ places = valid .size in
         length-take-le m (drop 1 w) (simp length-drop (omega arith))
 
     size : length (take m (drop 1 w) ++ (r ∷ drop (suc m) w)) ≡ 120
     size =
-        let z : length w ≡ 120 = valid .size in
+        let z : length w ≡ places = valid .size in
         simp (length-append, length-drop, stay) (omega arith)
 
     most : Small (take m (drop 1 w) ++ (r ∷ drop (suc m) w))
     most =
-        small-append (take m (drop 1 w)) (r ∷ drop (suc m) w) (small-take m (drop 1 w) (small-drop 1 w (valid .most)))
-        (small-cons r (drop (suc m) w) small (small-drop (suc m) w (valid .most)))
+        small-append (take m (drop 1 w)) (r ∷ drop (suc m) w) (small-take m (drop 1 w) (small-drop 1 w (valid .allowed .0)))
+        (small-cons r (drop (suc m) w) small (small-drop (suc m) w (valid .allowed .0)))
 
-    unused : (i : ℕ) → min (suc v) (suc m) ≤ i → getD (take m (drop 1 w) ++ (r ∷ drop (suc m) w)) i 0 ≡ 0
-    unused i h =
+    none : (i : ℕ) → min (suc v) (suc m) ≤ i → getD (take m (drop 1 w) ++ (r ∷ drop (suc m) w)) i 0 ≡ 0
+    none i h =
         let e : i ≡ length (take m (drop 1 w)) + suc (i - suc m) = omega (arith, stay) in
         rw e
         (getD-append-add (take m (drop 1 w)) (r ∷ drop (suc m) w) (suc (i - suc m)) 0
         ∙ getD-drop (suc m) w (i - suc m) 0
-        ∙ valid .unused (suc m + (i - suc m)) (omega arith))
+        ∙ unused valid (suc m + (i - suc m)) (omega arith))
 
 pub pushed-valid : (n v r : ℕ) (w : List ℕ) → 0 < n → n ≤ 120 → r ≤ 524288 → ValidWindow n v w → ValidWindow n (suc v) (pushed n v w r)
 pushed-valid zero v r w some fits small valid = absurd (omega arith)
@@ -94,8 +100,8 @@ zeros (suc n) (suc i) = zeros n i
 
 pub windowOf-valid : (n : ℕ) (hist : List ℕ) → 0 < n → n ≤ 120 → Small hist → ValidWindow n (length hist) (windowOf n hist)
 windowOf-valid n [] some fits small =
-    let none : ValidWindow n 0 (replicate 120 0) =
-    record { size = length-replicate {A = ℕ} 120 0; most = λ i. omega (arith, zeros 120 i); unused = λ i h. zeros 120 i } in
+    let none : ValidWindow n 0 (replicate places 0) =
+    allow (length-replicate {A = ℕ} places 0) (λ i. omega (arith, zeros places i)) (λ i h. zeros places i) in
     rw (windowOf-none n) none
 windowOf-valid n (r ∷ older) some fits small =
     subst (ValidWindow n (suc (length older))) (window-follows n r older some fits)
@@ -108,9 +114,9 @@ sum-small (x ∷ l) p = omega (arith, p zero, sum-small l (λ j. p (suc j)))
 
 pub sum-le : (n v : ℕ) (w : List ℕ) → n ≤ 120 → ValidWindow n v w → sum (take n w) ≤ n * 524288
 sum-le n v w fits valid =
-    let z : length w ≡ 120 = valid .size in
+    let z : length w ≡ places = valid .size in
     let e : length (take n w) ≡ n = length-take-le n w (omega arith) in
-    rw e at (sum-small (take n w) (small-take n w (valid .most)))
+    rw e at (sum-small (take n w) (small-take n w (valid .allowed .0)))
 
 sum-zeros : (l : List ℕ) → ((i : ℕ) → getD l i 0 ≡ 0) → sum l ≡ 0
 sum-zeros [] p = refl
@@ -121,7 +127,7 @@ sum-split n l = ap sum (sym (take-append-drop n l)) ∙ sum-append (take n l) (d
 
 pub sum-all : (n v : ℕ) (w : List ℕ) → ValidWindow n v w → sum (take n w) ≡ sum w
 sum-all n v w valid =
-    let rest : sum (drop n w) ≡ 0 = sum-zeros (drop n w) (λ i. getD-drop n w i 0 ∙ valid .unused (n + i) (omega arith)) in
+    let rest : sum (drop n w) ≡ 0 = sum-zeros (drop n w) (λ i. getD-drop n w i 0 ∙ unused valid (n + i) (omega arith)) in
     omega (arith, sum-split n w)
 
 -- the sum from value to value: the new value comes, and the one that leaves goes
@@ -142,11 +148,11 @@ sum-pushed (suc m) v r w some fits valid = go (v <ᵇ suc m) refl
         sum (if b then set w v r else take (suc m - 1) (drop 1 w) ++ (r ∷ drop (suc m) w)) + (if b then 0 else getD w 0 0) ≡ sum w + r
     go true e =
         let few : v < suc m = ltb-true v (suc m) e in
-        let z : length w ≡ 120 = valid .size in
-        omega (arith, sum-set w v r (omega arith), valid .unused v (omega arith))
+        let z : length w ≡ places = valid .size in
+        omega (arith, sum-set w v r (omega arith), unused valid v (omega arith))
     go false e =
         let d : suc m - 1 ≡ m = omega arith in
-        let z : length w ≡ 120 = valid .size in
+        let z : length w ≡ places = valid .size in
         rw d (sum-shifted m r w (omega arith))
 
 pub leaving-le : (n v : ℕ) (w : List ℕ) → ValidWindow n v w → leaving n v w ≤ 524288
@@ -154,4 +160,4 @@ leaving-le n v w valid = go (v <ᵇ n)
   where
     go : (b : Bool) → (if b then 0 else getD w 0 0) ≤ 524288
     go true = omega arith
-    go false = valid .most 0
+    go false = valid .allowed .0 0

@@ -1,62 +1,66 @@
--- The four numbers in their order: one that is 0 leaves the rest of the list, and one that is not decides.
-use mathlib.Core.Path.{_≡_, refl, sym, _∙_}
-use mathlib.Core.Bool.{Bool, true, false, _&&_}
+-- Each test that fails breaks the rule; what the tests leave decides it.
+use mathlib.Core.Path.{_≡_, refl}
+use mathlib.Core.List.{List}
+use Prim.Native.Nat.{ℕ}
+use native.Mathlib.Omega.{arith}
+use lib.ListN.{getD}
+use borrow.Author.Needs.{needs}
+use borrow.Author.Tests.{eqb-true, eq-eqb}
+use Rattle.numbers.specs.Rules.Rule.{zeros}
+use Rattle.numbers.specs.RulesLaws.{broken, decides}
 use mathlib.Core.List.{[], _∷_}
-use borrow.Author.Tests.{eq-eqb, ne-eqb}
-use Rattle.numbers.specs.Notation.{_≡ᵇ_, all}
-use Rattle.numbers.specs.NotationLaws.{and-fails, and-passes}
-use Rattle.rvc.specs.declared.Change.{Change}
+use Prim.Native.Nat.{zero, suc, _≤_}
+use lib.ListN.{length}
 use Rattle.bodies.proofs.change_zero.Statement.{statement}
 use Rattle.bodies.proofs.change_zero.Tie as tie
 
--- the test, and what is left of it behind each number
-module _ (c : Change) where
-  abbrev whole : Bool
-  whole = all (_≡ᵇ 0) (c .start ∷ c .sum ∷ c .difference ∷ c .stand ∷ [])
+-- behind its last number a list has 0
+behind : (l : List ℕ) (i : ℕ) → length l ≤ i → getD l i 0 ≡ 0
+behind [] i h = refl
+behind (x ∷ l) zero h = absurd (omega arith)
+behind (x ∷ l) (suc i) h = behind l i (omega arith)
 
-  abbrev from-sum : Bool
-  from-sum = all (_≡ᵇ 0) (c .sum ∷ c .difference ∷ c .stand ∷ [])
+-- four numbers that are 0
+four-zero : (l : List ℕ) → length l ≡ 4 → getD l 0 0 ≡ 0 → getD l 1 0 ≡ 0 → getD l 2 0 ≡ 0 → getD l 3 0 ≡ 0 → (i : ℕ) → getD l i 0 ≡ 0
+four-zero l n a b c d zero = a
+four-zero l n a b c d (suc zero) = b
+four-zero l n a b c d (suc (suc zero)) = c
+four-zero l n a b c d (suc (suc (suc zero))) = d
+four-zero l n a b c d (suc (suc (suc (suc i)))) = behind l (suc (suc (suc (suc i)))) (omega arith)
 
-  abbrev from-difference : Bool
-  from-difference = all (_≡ᵇ 0) (c .difference ∷ c .stand ∷ [])
-
-  abbrev from-stand : Bool
-  from-stand = all (_≡ᵇ 0) (c .stand ∷ [])
-
--- the change at the place behind each test
-abbrev change-1 : tie.Else1 → Change
-change-1 c = c .before .before .args .change
-
-abbrev change-2 : tie.Else2 → Change
-change-2 c = change-1 (c .before .before)
-
-abbrev change-3 : tie.Else3 → Change
-change-3 c = change-2 (c .before .before)
-
-behind-start : (c : tie.Else1) → whole (change-1 c) ≡ from-sum (change-1 c)
-behind-start c = and-passes _ (eq-eqb _ _ (c .if1 .left))
-
-behind-sum : (c : tie.Else2) → whole (change-2 c) ≡ from-difference (change-2 c)
-behind-sum c = behind-start (c .before .before) ∙ and-passes _ (eq-eqb _ _ (c .if2 .left))
-
-behind-difference : (c : tie.Else3) → whole (change-3 c) ≡ from-stand (change-3 c)
-behind-difference c = behind-sum (c .before .before) ∙ and-passes _ (eq-eqb _ _ (c .if3 .left))
-
-alone : (t : Bool) → (t && true) ≡ t
-alone true = refl
-alone false = refl
+shared-slice-read-if1 : tie.Need-shared-slice-read-if1
+shared-slice-read-if1 c = search needs
 
 returns : tie.Need-returns
-returns c = sym (and-fails _ (ne-eqb _ _ (c .if1 .taken)))
+returns c = let a = c .before .before .args in broken (zeros (a .numbers .now)) (λ h. c .if1 .taken (h 0))
+
+shared-slice-read-if2 : tie.Need-shared-slice-read-if2
+shared-slice-read-if2 c = search needs
 
 returns-2 : tie.Need-returns-2
-returns-2 c = sym (behind-start (c .before .before) ∙ and-fails _ (ne-eqb _ _ (c .if2 .taken)))
+returns-2 c = let a = c .before .before .before .before .args in broken (zeros (a .numbers .now)) (λ h. c .if2 .taken (h 1))
+
+shared-slice-read-if3 : tie.Need-shared-slice-read-if3
+shared-slice-read-if3 c = search needs
 
 returns-3 : tie.Need-returns-3
-returns-3 c = sym (behind-sum (c .before .before) ∙ and-fails _ (ne-eqb _ _ (c .if3 .taken)))
+returns-3 c = let a = c .before .before .before .before .before .before .args in broken (zeros (a .numbers .now)) (λ h. c .if3 .taken (h 2))
+
+shared-slice-read-result : tie.Need-shared-slice-read-result
+shared-slice-read-result c = search needs
 
 returns-4 : tie.Need-returns-4
-returns-4 c = sym (behind-difference (c .before) ∙ alone _)
+returns-4 c = let a = c .before .before .before .before .before .before .before .args in decides (zeros (a .numbers .now)) _ (λ e. four-zero (a .numbers .now) (c .before .before .before .before .before .before .before .pre) (c .before .before .before .before .before .if1 .left) (c .before .before .before .if2 .left) (c .before .if3 .left) (eqb-true _ 0 e)) (λ h. eq-eqb _ 0 (h 3))
 
 pub change-zero-spec : {M : Type 1} → statement M
-change-zero-spec = tie.close (tie.spec returns returns-2 returns-3 returns-4)
+change-zero-spec =
+    tie.close
+    (tie.spec
+    shared-slice-read-if1
+    returns
+    shared-slice-read-if2
+    returns-2
+    shared-slice-read-if3
+    returns-3
+    shared-slice-read-result
+    returns-4)

@@ -1,11 +1,11 @@
--- The start is at most V, so that N ≤ V − k says that V < k + N fails.
+-- N ≤ V − k is k + N ≤ V, since k ≤ V.
 use mathlib.Core.Path.{sym}
 use Prim.Native.Nat.{_+_}
 use native.Mathlib.Omega.{arith}
 use borrow.Author.Needs.{needs}
-use borrow.Author.Tests.{lt-ltb, le-ltb}
-use Rattle.bodies.specs.Bodies.{earlyTest}
-use Rattle.bodies.proofs.Rules.{condition-holds, condition-fails}
+use borrow.Author.Tests.{eqb-true, eq-eqb}
+use Rattle.numbers.specs.Rules.Rule.{_<ʳ_, _≡ʳ_, _implies_}
+use Rattle.numbers.specs.RulesLaws.{decides, passed}
 use Rattle.bodies.proofs.early_good.Statement.{statement}
 use Rattle.bodies.proofs.early_good.Tie as tie
 
@@ -13,12 +13,10 @@ sub-if1 : tie.Need-sub-if1
 sub-if1 c = search needs
 
 returns : tie.Need-returns
-unfolding earlyTest
-returns c = let a = c .before .before .args in sym (condition-fails _ (le-ltb (a .values) (a .change .start + a .window-length) (omega arith)))
+returns c = let a = c .before .args in sym (passed (a .values <ʳ a .start + a .window-length implies a .difference ≡ʳ 0) (λ z. absurd (omega arith)))
 
 returns-2 : tie.Need-returns-2
-unfolding earlyTest
-returns-2 c = let a = c .before .before .before .args in sym (condition-holds _ (lt-ltb (a .values) (a .change .start + a .window-length) (omega arith)))
+returns-2 c = let a = c .before .args in decides (a .values <ʳ a .start + a .window-length implies a .difference ≡ʳ 0) _ (λ e _. eqb-true _ 0 e) (λ h. eq-eqb _ 0 (h (omega arith)))
 
 pub early-good-spec : {M : Type 1} → statement M
 early-good-spec = tie.close (tie.spec sub-if1 returns returns-2)

@@ -1,7 +1,7 @@
 -- Each arm's numbers are those of its phase.
 use mathlib.Core.Path.{sym, ap}
 use borrow.Author.Needs.{needs}
-use Rattle.bodies.specs.Bodies.{phaseNumbers}
+use Rattle.rvc.specs.Phase.{phaseRow}
 use Rattle.bodies.proofs.numbers_of.Statement.{statement}
 use Rattle.bodies.proofs.numbers_of.Tie as tie
 
@@ -27,7 +27,7 @@ returns-3 : tie.Need-returns-3
 returns-3 c = search needs
 
 returns-4 : tie.Need-returns-4
-returns-4 c = sym (ap phaseNumbers (c .before .phase .given .1))
+returns-4 c = sym (ap phaseRow (c .before .phase .given .1))
 
 pub numbers-of-spec : {M : Type 1} → statement M
 numbers-of-spec =

@@ -1,10 +1,11 @@
--- The constant is the table, and nothing of the part is left behind its 32 bytes.
+-- The constant is the table, and nothing of the part is left behind it.
 use mathlib.Core.Path.{_≡_, _∙_, ap}
 use mathlib.Core.List.{List, [], _++_}
 use Prim.Native.Nat.{ℕ}
 use native.Mathlib.Omega.{arith}
 use lib.ListN.{drop, drop-of-length-le}
 use borrow.Author.Needs.{needs}
+use Rattle.reading.specs.Layout.{tableLength}
 use Rattle.reading.specs.Image.{table}
 use Rattle.bodies.proofs.put_table.Statement.{statement}
 use Rattle.bodies.proofs.put_table.Tie as tie
@@ -20,10 +21,8 @@ same-length c = search needs
 
 returns : tie.Need-returns
 returns c =
-    let copy = c .before .before in
-    let part = copy .before .before .before .before .args .part .now in
-    let none : drop 32 part ≡ [] = drop-of-length-le part {i = 32} (omega arith) in
-    copy .copy .ensures .1 ∙ ap (λ (l : List ℕ). table ++ l) none
+    let none : drop tableLength (c .before .before .before .before .before .before .args .part .now) ≡ [] = drop-of-length-le (c .before .before .before .before .before .before .args .part .now) {i = tableLength} (omega arith) in
+    c .before .before .copy .ensures .1 ∙ ap (λ (l : List ℕ). table ++ l) none
 
 pub put-table-spec : {M : Type 1} → statement M
 put-table-spec = tie.close (tie.spec slice-aggregate-copy copy-requires same-length returns)

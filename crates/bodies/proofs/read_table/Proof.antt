@@ -5,11 +5,12 @@ use mathlib.Core.List.{List, [], _∷_}
 use Prim.Native.Nat.{ℕ}
 use borrow.Author.Needs.{needs}
 use borrow.Author.Tests.{eq-eqb}
+use Rattle.numbers.specs.Notation.{refuse_unless_then_}
 use Rattle.numbers.specs.NotationLaws.{and-true}
 use Rattle.reading.specs.Image.{table}
 use Rattle.reading.specs.Restore.{sameBytes}
-use Rattle.bodies.specs.Bodies.{verdictOf, tableAnswer}
-use Rattle.bodies.specs.BodiesValid.{same-equal}
+use Rattle.bodies.specs.Bodies.{tableRefusal}
+use Rattle.bodies.specs.BodiesLaws.{same-equal}
 use Rattle.bodies.proofs.read_table.Statement.{statement}
 use Rattle.bodies.proofs.read_table.Tie as tie
 
@@ -27,9 +28,11 @@ answer-same xs ys false f g = go (sameBytes xs ys) refl
     go true e = g (same-equal xs ys e)
     go false e = refl
 
-answered : (c : tie.After-same) → verdictOf (c .same .result) ≡ tableAnswer (c .before .before .before .args .part .now)
-unfolding tableAnswer
-answered c = ap verdictOf (answer-same (c .before .before .before .args .part .now) table (c .same .result) (c .same .ensures .0) (c .same .ensures .1))
+abbrev number-by : Bool → ℕ
+number-by b = refuse 9 unless b then 0
+
+answer-is : (c : tie.After-same) → number-by (c .same .result) ≡ tableRefusal (c .before .before .before .args .part .now)
+answer-is c = ap number-by (answer-same (c .before .before .before .args .part .now) table (c .same .result) (c .same .ensures .0) (c .same .ensures .1))
 
 slice-aggregate-same : tie.Need-slice-aggregate-same
 slice-aggregate-same c = search needs
@@ -38,10 +41,10 @@ same-requires : tie.Need-same-requires
 same-requires c κs = search needs
 
 returns : tie.Need-returns
-returns c = ap verdictOf (sym (c .if1 .taken)) ∙ answered (c .before)
+returns c = ap number-by (sym (c .if1 .taken)) ∙ answer-is (c .before)
 
 returns-2 : tie.Need-returns-2
-returns-2 c = ap verdictOf (sym (c .if1 .left)) ∙ answered (c .before)
+returns-2 c = ap number-by (sym (c .if1 .left)) ∙ answer-is (c .before)
 
 pub read-table-spec : {M : Type 1} → statement M
 read-table-spec = tie.close (tie.spec slice-aggregate-same same-requires returns returns-2)

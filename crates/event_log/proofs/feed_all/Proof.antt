@@ -71,8 +71,8 @@ add-at : tie.Need-add-at Inv-loop μ-loop
 add-at c =
     let call = c .before .before .before .before .before .before .before .before .before .before in
     let loop = call .before .before .before .before .loop in
-    let samples = call .before .before .before .before .before .args .samples .now in
-    omega (arith, turn-inside samples (loop .at) _ _ (call .feed .ensures .0) (loop .inv .1))
+    let start = call .before .before .before .before .before in
+    omega (arith, turn-inside (start .args .samples .now) (loop .at) _ _ (call .feed .ensures .0) (loop .inv .1), start .good)
 
 loop-less : tie.Need-loop-less Inv-loop μ-loop
 loop-less c =

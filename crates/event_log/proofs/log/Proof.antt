@@ -22,8 +22,8 @@ slice-aggregate-write-all c = search needs
 write-all-requires : tie.Need-write-all-requires Inv-loop μ-loop
 write-all-requires c κs = search needs
 
-start-requires : tie.Need-start-requires Inv-loop μ-loop
-start-requires c κs = search needs
+fresh-requires : tie.Need-fresh-requires Inv-loop μ-loop
+fresh-requires c κs = search needs
 
 loop-holds : tie.Need-loop-holds Inv-loop μ-loop
 loop-holds c = search needs
@@ -78,7 +78,7 @@ log-spec =
     μ-loop
     slice-aggregate-write-all
     write-all-requires
-    start-requires
+    fresh-requires
     loop-holds
     slice-aggregate-read-full
     read-full-requires

@@ -1,6 +1,7 @@
 -- Settings that were read are valid.
-use mathlib.Core.Path.{sym, _∙_}
+use mathlib.Core.Path.{sym, _∙_, ap}
 use borrow.Author.Needs.{needs}
+use Rattle.settings.specs.Settings.{settingsTold}
 use Rattle.settings.specs.SettingsLaws.{read-accepted}
 use Rattle.event_log.proofs.main.Statement.{statement}
 use Rattle.event_log.proofs.main.Tie as tie
@@ -24,7 +25,7 @@ enum-known-settings : tie.Need-enum-known-settings
 enum-known-settings c = search needs
 
 log-requires : tie.Need-log-requires
-log-requires c κs = read-accepted _ _ (sym (c .before .before .before .from-bytes .ensures) ∙ c .before .settings .given .1) .valid
+log-requires c κs = read-accepted _ _ (sym (c .before .before .before .from-bytes .ensures) ∙ ap settingsTold (c .before .settings .given .1)) .valid
 
 enum-known-number : tie.Need-enum-known-number
 enum-known-number c = search needs

@@ -13,7 +13,7 @@ use Rattle.feed.proofs.complete.Tie as tie
 with-half-requires : tie.Need-with-half-requires
 with-half-requires c κs =
     let start = c .before .before in
-    omega (arith, start .pre .valid .gatherer-valid .sum-le, start .pre .part-fits, start .pre .valid .settings-valid .samples-most)
+    omega (arith, start .pre .valid .gatherer-valid .1 .0, start .pre .part-fits, start .pre .valid .settings-valid .samples-most)
 
 returns : tie.Need-returns
 returns c =
@@ -50,8 +50,8 @@ rms-value-requires c κs =
     let v = start .pre .valid in (
       omega (arith, v .settings-valid .samples-least),
       omega (arith, v .settings-valid .samples-most),
-      v .gatherer-valid .last-le,
-      omega (arith, last-is, v .gatherer-valid .sum-le, v .gatherer-valid .count-lt, start .pre .part-fits),
+      v .gatherer-valid .1 .1 .0,
+      omega (arith, last-is, v .gatherer-valid .1 .0, v .gatherer-valid .0, start .pre .part-fits),
     )
 
 try-value-requires : tie.Need-try-value-requires

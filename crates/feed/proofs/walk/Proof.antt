@@ -5,6 +5,7 @@ use native.Mathlib.Omega.{arith}
 use lib.ListN.{length, drop, length-take}
 use borrow.Author.Needs.{needs}
 use borrow.Rule.Slice.PartMut.{same-len-mid}
+use Rattle.reading.specs.Layout.{recordLength}
 use Rattle.feed.proofs.Walking.{Walking, walk-starts, share-some, half-few, complete-ready, taken-fits, taken-count, walk-turns, walk-stops, walk-ends}
 use Rattle.feed.proofs.walk.Statement.{statement}
 use Rattle.feed.proofs.walk.Tie as tie
@@ -23,7 +24,7 @@ sum-of-requires : tie.Need-sum-of-requires Inv-loop μ-loop
 sum-of-requires c κs = omega (arith, c .before .before .before .before .pre .window-valid .size)
 
 cut-requires : tie.Need-cut-requires Inv-loop μ-loop
-cut-requires c κs = c .before .before .before .before .before .pre .gatherer-valid .count-lt
+cut-requires c κs = c .before .before .before .before .before .pre .gatherer-valid .0
 
 loop-holds : tie.Need-loop-holds Inv-loop μ-loop
 loop-holds c =
@@ -138,7 +139,7 @@ same-length-2 c =
     let at-complete = c .before .before .before .before .before .before .before .before in
     let turn = at-complete .before .before .before .before .before .before .before in
     let l = turn .loop in
-    same-len-mid (20 * l .written) (length (l .records) - 20 * l .written) (l .records) (at-complete .complete .last .1 .1 .1 .1 .1 .1 .1 .0) (at-complete .complete .kept .1 .1 .1 .1 .1 .1 .1 .0) ∙ l .inv .long
+    same-len-mid (recordLength * l .written) (length (l .records) - recordLength * l .written) (l .records) (at-complete .complete .last .1 .1 .1 .1 .1 .1 .1 .0) (at-complete .complete .kept .1 .1 .1 .1 .1 .1 .1 .0) ∙ l .inv .long
 
 returns : tie.Need-returns Inv-loop μ-loop
 returns c =
@@ -212,7 +213,7 @@ loop-again c =
     let l = turn .loop in
     let half = at-complete .complete in
     walk-turns (l .inv) (tested .loop-test .taken) (at-sum-squares .sum-squares .ensures) (half .ensures) (omega (arith, first .if1 .left)) (c .cut2 .result) (c .cut2 .ensures)
-    (same-len-mid (20 * l .written) (length (l .records) - 20 * l .written) (l .records) (half .last .1 .1 .1 .1 .1 .1 .1 .0) (half .kept .1 .1 .1 .1 .1 .1 .1 .0))
+    (same-len-mid (recordLength * l .written) (length (l .records) - recordLength * l .written) (l .records) (half .last .1 .1 .1 .1 .1 .1 .1 .0) (half .kept .1 .1 .1 .1 .1 .1 .1 .0))
     (half .kept .1 .1 .1 .1 .1 .0)
 
 mul-end-walk-2 : tie.Need-mul-end-walk-2 Inv-loop μ-loop

@@ -6,6 +6,7 @@ use lib.ListN.{length, length-take, length-drop}
 use lib.Seq.{length-take-le, length-front}
 use borrow.Author.Needs.{needs}
 use borrow.Rule.Slice.PartMut.{same-len-mid}
+use Rattle.reading.specs.Layout.{recordLength}
 use Rattle.host.proofs.Chunks.{Chunks, chunks-start, chunks-end, taken-few, written-fit, chunks-turn, chunks-stop}
 use Rattle.host.proofs.feed_chunks.Statement.{statement}
 use Rattle.host.proofs.feed_chunks.Tie as tie
@@ -148,7 +149,7 @@ same-length c =
     let turn = at-feed .before .before .before .before .before .before .before .before .before in
     let l = turn .loop in
     let fed = at-feed .feed in
-    same-len-mid (20 * l .written) (length (l .records) - 20 * l .written) (l .records) (fed .last .1 .1 .0) (fed .kept .1 .1 .0) ∙ l .inv .0 .long
+    same-len-mid (recordLength * l .written) (length (l .records) - recordLength * l .written) (l .records) (fed .last .1 .1 .0) (fed .kept .1 .1 .0) ∙ l .inv .0 .long
 
 returns : tie.Need-returns Inv-loop μ-loop
 returns c =
@@ -195,7 +196,7 @@ loop-again c =
     let fed = at-feed .feed in (
       chunks-turn (l .inv .0) (omega (arith, k .ensures, l .inv .0 .inside)) (l .samples)
           (read .kept .1 .0 ∙ length-take-le (k .result) (l .samples) (omega (arith, k .ensures, l .inv .1))) (read .ensures) (fed .ensures) (omega (arith, c .if1 .left))
-          (same-len-mid (20 * l .written) (length (l .records) - 20 * l .written) (l .records) (fed .last .1 .1 .0) (fed .kept .1 .1 .0)),
+          (same-len-mid (recordLength * l .written) (length (l .records) - recordLength * l .written) (l .records) (fed .last .1 .1 .0) (fed .kept .1 .1 .0)),
       length-front (l .samples) (read .last .1 .0) (k .result) (read .kept .1 .0) ∙ l .inv .1,
     )
 

@@ -1,76 +1,61 @@
--- Three numbers of 8 bytes, one behind the other.
+-- The row of the three numbers stands at the front of the reply.
+use mathlib.Core.Path.{_≡_, refl, sym, _∙_, ap}
+use mathlib.Core.List.{List, [], _∷_, _++_}
+use Prim.Native.Nat.{ℕ}
+use native.Mathlib.Omega.{arith}
+use lib.ListN.{length, drop, length-take, length-drop}
 use borrow.Author.Needs.{needs}
-use Rattle.host.proofs.Answers.{reply-is}
+use Rattle.octets.specs.Bytes.{row}
+use Rattle.octets.specs.RowLaws.{length-row}
+use Rattle.reading.specs.declared.Told.{Told}
+use Rattle.reading.specs.Layout.{replyWidths, replyLength}
+use Rattle.host.specs.Host.{replied}
 use Rattle.host.proofs.put_reply.Statement.{statement}
 use Rattle.host.proofs.put_reply.Tie as tie
 
-sub-put-u64 : tie.Need-sub-put-u64
-sub-put-u64 c = search needs
+cast-t8 : tie.Need-cast-t8
+cast-t8 c = search needs
 
-part-put-u64-start : tie.Need-part-put-u64-start
-part-put-u64-start c = search needs
+sub-put-row : tie.Need-sub-put-row
+sub-put-row c = search needs
 
-part-put-u64-end : tie.Need-part-put-u64-end
-part-put-u64-end c = search needs
+part-put-row-start : tie.Need-part-put-row-start
+part-put-row-start c = search needs
 
-put-u64-requires : tie.Need-put-u64-requires
-put-u64-requires c κs = search needs
+part-put-row-end : tie.Need-part-put-row-end
+part-put-row-end c = search needs
 
-sub-put-u64-2 : tie.Need-sub-put-u64-2
-sub-put-u64-2 c = search needs
+slice-aggregate-put-row : tie.Need-slice-aggregate-put-row
+slice-aggregate-put-row c = search needs
 
-part-put-u64-start-2 : tie.Need-part-put-u64-start-2
-part-put-u64-start-2 c = search needs
+slice-aggregate-put-row-2 : tie.Need-slice-aggregate-put-row-2
+slice-aggregate-put-row-2 c = search needs
 
-part-put-u64-end-2 : tie.Need-part-put-u64-end-2
-part-put-u64-end-2 c = search needs
-
-put-u64-requires-2 : tie.Need-put-u64-requires-2
-put-u64-requires-2 c κs = search needs
-
-sub-put-u64-3 : tie.Need-sub-put-u64-3
-sub-put-u64-3 c = search needs
-
-part-put-u64-start-3 : tie.Need-part-put-u64-start-3
-part-put-u64-start-3 c = search needs
-
-part-put-u64-end-3 : tie.Need-part-put-u64-end-3
-part-put-u64-end-3 c = search needs
-
-cast-put-u64 : tie.Need-cast-put-u64
-cast-put-u64 c = search needs
-
-put-u64-requires-3 : tie.Need-put-u64-requires-3
-put-u64-requires-3 c κs = search needs
+put-row-requires : tie.Need-put-row-requires
+put-row-requires c κs = (refl, simp (length-take, length-drop) (omega arith))
 
 same-length : tie.Need-same-length
 same-length c = search needs
 
 returns : tie.Need-returns
+unfolding replied
 returns c =
-    let at-put-u643 = c .before .before in
-    let at-put-u642 = at-put-u643 .before .before .before .before .before in
-    let at-put-u64 = at-put-u642 .before .before .before .before in
-    let start = at-put-u64 .before .before .before in
-    let a = start .args in
-    reply-is (a .told) (a .reply .now) _ _ _ (at-put-u64 .put-u64 .ensures) (at-put-u642 .put-u642 .ensures) (at-put-u643 .put-u643 .ensures)
+    let told : Told = c .before .before .before .before .before .before .before .before .args .told in
+    let reply : List ℕ = c .before .before .before .before .before .before .before .before .args .reply .now in
+    let numbers = row replyWidths (told .taken ∷ told .written ∷ told .why ∷ []) in
+    let long : replyLength ≡ length numbers = sym (length-row replyWidths (told .taken ∷ told .written ∷ told .why ∷ []) refl) in
+    ap (λ (y : List ℕ). y ++ drop replyLength reply) (c .before .before .put-row .ensures) ∙ ap (λ (k : ℕ). numbers ++ drop k reply) long
 
 pub put-reply-spec : {M : Type 1} → statement M
 put-reply-spec =
     tie.close
     (tie.spec
-    sub-put-u64
-    part-put-u64-start
-    part-put-u64-end
-    put-u64-requires
-    sub-put-u64-2
-    part-put-u64-start-2
-    part-put-u64-end-2
-    put-u64-requires-2
-    sub-put-u64-3
-    part-put-u64-start-3
-    part-put-u64-end-3
-    cast-put-u64
-    put-u64-requires-3
+    cast-t8
+    sub-put-row
+    part-put-row-start
+    part-put-row-end
+    slice-aggregate-put-row
+    slice-aggregate-put-row-2
+    put-row-requires
     same-length
     returns)

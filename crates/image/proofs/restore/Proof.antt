@@ -3,18 +3,20 @@ use mathlib.Core.Path.{_≡_, sym, _∙_, ap}
 use mathlib.Core.List.{List}
 use Prim.Native.Nat.{ℕ}
 use borrow.Author.Needs.{needs}
+use Rattle.numbers.specs.Answers.Answered.{accepted}
 use Rattle.settings.specs.declared.Settings.{Settings}
+use Rattle.settings.specs.declared.SettingsRead.{SettingsRead}
+use Rattle.settings.specs.Settings.{settingsTold}
+use Rattle.reading.specs.Layout.{eventsOffset, eventsLength}
 use Rattle.reading.specs.Restore.{part}
+use Rattle.reading.specs.Calls.{Restoration}
 use Rattle.rms.specs.declared.Gatherer.{Gatherer}
 use Rattle.state.specs.declared.State.{State}
 use Rattle.state.specs.State.{stateWith}
 use Rattle.bodies.specs.declared.Verdict.{Verdict}
 use Rattle.bodies.specs.declared.GathererRead.{GathererRead}
-use Rattle.bodies.specs.declared.WindowRead.{WindowRead}
 use Rattle.bodies.specs.declared.DetectorRead.{DetectorRead}
-use Rattle.bodies.specs.Bodies.{gathererAnswer, windowAt, windowAnswer}
-use Rattle.image.specs.declared.Acceptance.the-variants.{Accepted}
-use Rattle.image.specs.declared.Restored.{Restored}
+use Rattle.bodies.specs.Bodies.{verdictNumber, gathererTold, detectorTold, detectorAnswer}
 use Rattle.image.specs.Image.{restoredBy}
 use Rattle.image.proofs.SectionBySection.{by-table, by-settings, by-gatherer, by-window, by-detector, right-length, other-length}
 use Rattle.image.proofs.restore.Statement.{statement}
@@ -27,22 +29,28 @@ module _ (c : tie.After-read-table) where
   abbrev image : List ℕ
   image = c .before .before .before .before .args .bytes .now
 
-  at-table : restoredBy old image ≡ by-table old image (c .read-table .result)
+  abbrev after-table : Verdict → Restoration State
+  after-table r = by-table old image (verdictNumber 9 r)
+
+  at-table : restoredBy old image ≡ after-table (c .read-table .result)
   at-table = right-length old image (c .before .before .if1 .left) ∙ ap (by-table old image) (sym (c .read-table .ensures))
 
 module _ (c : tie.After-from-bytes) where
   abbrev table : tie.After-read-table
   table = c .before .before .before .before
 
-  at-settings : restoredBy (old table) (image table) ≡ by-settings (old table) (image table) (c .from-bytes .result)
+  abbrev after-settings : SettingsRead → Restoration State
+  after-settings r = by-settings (old table) (image table) (settingsTold r)
+
+  at-settings : restoredBy (old table) (image table) ≡ after-settings (c .from-bytes .result)
   at-settings =
       at-table table
-      ∙ ap (by-table (old table) (image table)) (c .before .before .enum-told .given .1)
+      ∙ ap (after-table table) (c .before .before .enum-told .given .1)
       ∙ ap (by-settings (old table) (image table)) (sym (c .from-bytes .ensures))
 
 module _ (c : tie.After-read-gatherer) where
   abbrev read : tie.After-settings
-  read = c .before .before .before .before
+  read = c .before .before .before
 
   abbrev first : tie.After-read-table
   first = table (read .before .before)
@@ -50,15 +58,14 @@ module _ (c : tie.After-read-gatherer) where
   abbrev settings : Settings
   settings = read .settings .given .0 .0
 
-  abbrev by-read : ℕ → GathererRead → Restored
-  by-read = by-gatherer (old first) (image first) settings
+  abbrev after-gatherer : GathererRead → Restoration State
+  after-gatherer r = by-gatherer (old first) (image first) settings (gathererTold r)
 
-  at-gatherer : restoredBy (old first) (image first) ≡ by-read (c .before .before .get-u32 .result) (c .read-gatherer .result)
+  at-gatherer : restoredBy (old first) (image first) ≡ after-gatherer (c .read-gatherer .result)
   at-gatherer =
       at-settings (read .before .before)
-      ∙ ap (by-settings (old first) (image first)) (read .settings .given .1)
-      ∙ ap (λ (v : ℕ). by-read v (gathererAnswer settings v (part 68 24 (image first)))) (sym (c .before .before .get-u32 .ensures))
-      ∙ ap (by-read (c .before .before .get-u32 .result)) (sym (c .read-gatherer .ensures))
+      ∙ ap (after-settings (read .before .before)) (read .settings .given .1)
+      ∙ ap (by-gatherer (old first) (image first) settings) (sym (c .read-gatherer .ensures))
 
 module _ (c : tie.After-read-window) where
   abbrev g : tie.After-read-gatherer
@@ -67,28 +74,32 @@ module _ (c : tie.After-read-window) where
   abbrev gatherer : Gatherer
   gatherer = c .before .before .before .gatherer .given .0 .0
 
-  abbrev by-verdict : Verdict → Restored
-  by-verdict = by-window (old (first g)) (image (first g)) (settings g) (g .before .before .get-u32 .result) gatherer
+  abbrev after-window : Verdict → Restoration State
+  after-window r = by-window (old (first g)) (image (first g)) (settings g) gatherer (verdictNumber 11 r)
 
-  at-window : restoredBy (old (first g)) (image (first g)) ≡ by-verdict (c .read-window .result .verdict)
+  at-window : restoredBy (old (first g)) (image (first g)) ≡ after-window (c .read-window .result .verdict)
   at-window =
       at-gatherer g
-      ∙ ap (by-read g (g .before .before .get-u32 .result)) (c .before .before .before .gatherer .given .1)
-      ∙ ap (λ (r : WindowRead). by-verdict (r .verdict)) (sym (c .read-window .ensures))
-
-  window-is : c .read-window .result .window ≡ windowAt (part 92 484 (image (first g)))
-  unfolding windowAnswer
-  window-is = ap (λ (r : WindowRead). r .window) (c .read-window .ensures)
+      ∙ ap (after-gatherer g) (c .before .before .before .gatherer .given .1)
+      ∙ ap (by-window (old (first g)) (image (first g)) (settings g) gatherer) (sym (c .read-window .ensures .number-is))
 
 module _ (c : tie.After-read-detector) where
   abbrev w : tie.After-read-window
   w = c .before .before .before .before .before
 
-  abbrev by-answer : DetectorRead → Restored
-  by-answer = by-detector (old (first (g w))) (image (first (g w))) (settings (g w)) (gatherer w)
+  abbrev bytes : List ℕ
+  bytes = image (first (g w))
 
-  at-detector : restoredBy (old (first (g w))) (image (first (g w))) ≡ by-answer (c .read-detector .result)
-  at-detector = at-window w ∙ ap (by-verdict w) (c .before .before .enum-told5 .given .1) ∙ ap by-answer (sym (c .read-detector .ensures))
+  abbrev after-detector : DetectorRead → Restoration State
+  after-detector r = by-detector (old (first (g w))) bytes (settings (g w)) (gatherer w) (detectorTold r)
+
+  at-detector : restoredBy (old (first (g w))) bytes ≡ after-detector (c .read-detector .result)
+  at-detector =
+      let by-answer = by-detector (old (first (g w))) bytes (settings (g w)) (gatherer w) in
+      at-window w
+      ∙ ap (after-window w) (c .before .before .enum-told5 .given .1)
+      ∙ ap (λ (v : ℕ). by-answer (detectorAnswer (settings (g w)) v (part eventsOffset eventsLength bytes))) (sym (w .read-window .ensures .count-is))
+      ∙ ap by-answer (sym (c .read-detector .ensures))
 
 refused-requires : tie.Need-refused-requires
 refused-requires c κs = search needs
@@ -120,9 +131,7 @@ refused-requires-2 : tie.Need-refused-requires-2
 refused-requires-2 c κs = search needs
 
 returns-2 : tie.Need-returns-2
-returns-2 c =
-    let t = c .before .before .before in
-    c .refused2 .ensures ∙ sym (at-table t ∙ ap (by-table (old t) (image t)) (c .before .enum-told2 .given .1))
+returns-2 c = let t = c .before .before .before in c .refused2 .ensures ∙ sym (at-table t ∙ ap (after-table t) (c .before .enum-told2 .given .1))
 
 sub-from-bytes : tie.Need-sub-from-bytes
 sub-from-bytes c = search needs
@@ -146,15 +155,7 @@ refused-requires-3 : tie.Need-refused-requires-3
 refused-requires-3 c κs = search needs
 
 returns-3 : tie.Need-returns-3
-returns-3 c =
-    let s = c .before .before .before in
-    c .refused3 .ensures ∙ sym (at-settings s ∙ ap (by-settings (old (table s)) (image (table s))) (c .before .enum-told3 .given .1))
-
-get-u32-requires : tie.Need-get-u32-requires
-get-u32-requires c κs = search needs
-
-cast-values : tie.Need-cast-values
-cast-values c = search needs
+returns-3 c = let s = c .before .before .before in c .refused3 .ensures ∙ sym (at-settings s ∙ ap (after-settings s) (c .before .enum-told3 .given .1))
 
 sub-read-gatherer : tie.Need-sub-read-gatherer
 sub-read-gatherer c = search needs
@@ -178,9 +179,7 @@ refused-requires-4 : tie.Need-refused-requires-4
 refused-requires-4 c κs = search needs
 
 returns-4 : tie.Need-returns-4
-returns-4 c =
-    let g = c .before .before .before in
-    c .refused4 .ensures ∙ sym (at-gatherer g ∙ ap (by-read g (g .before .before .get-u32 .result)) (c .before .enum-told4 .given .1))
+returns-4 c = let g = c .before .before .before in c .refused4 .ensures ∙ sym (at-gatherer g ∙ ap (after-gatherer g) (c .before .enum-told4 .given .1))
 
 sub-read-window : tie.Need-sub-read-window
 sub-read-window c = search needs
@@ -204,9 +203,7 @@ refused-requires-5 : tie.Need-refused-requires-5
 refused-requires-5 c κs = search needs
 
 returns-5 : tie.Need-returns-5
-returns-5 c =
-    let w = c .before .before .before .before in
-    c .refused5 .ensures ∙ sym (at-window w ∙ ap (by-verdict w) (c .before .enum-told6 .given .1))
+returns-5 c = let w = c .before .before .before .before in c .refused5 .ensures ∙ sym (at-window w ∙ ap (after-window w) (c .before .enum-told6 .given .1))
 
 sub-read-detector : tie.Need-sub-read-detector
 sub-read-detector c = search needs
@@ -230,16 +227,15 @@ refused-requires-6 : tie.Need-refused-requires-6
 refused-requires-6 c κs = search needs
 
 returns-6 : tie.Need-returns-6
-returns-6 c =
-    let d = c .before .before .before in
-    c .refused6 .ensures ∙ sym (at-detector d ∙ ap (by-answer d) (c .before .enum-told7 .given .1))
+returns-6 c = let d = c .before .before .before in c .refused6 .ensures ∙ sym (at-detector d ∙ ap (after-detector d) (c .before .enum-told7 .given .1))
 
 returns-7 : tie.Need-returns-7
 returns-7 c =
     let read = c .before in
     let d = read .before .before in
-    (λ i. record { answer = Accepted; state = stateWith (settings (g (w d))) (gatherer (w d)) (read .detector .given .0 .0) (window-is (w d) i) })
-    ∙ sym (at-detector d ∙ ap (by-answer d) (read .detector .given .1))
+    let window-is = w d .read-window .ensures .window-is in
+    (λ i. record { after = stateWith (settings (g (w d))) (gatherer (w d)) (read .detector .given .0 .0) (window-is i); answer = accepted tt })
+    ∙ sym (at-detector d ∙ ap (after-detector d) (read .detector .given .1))
 
 pub restore-spec : {M : Type 1} → statement M
 restore-spec =
@@ -263,8 +259,6 @@ restore-spec =
     enum-told-3
     refused-requires-3
     returns-3
-    get-u32-requires
-    cast-values
     sub-read-gatherer
     part-read-gatherer-start
     part-read-gatherer-end

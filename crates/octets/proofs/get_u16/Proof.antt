@@ -1,7 +1,7 @@
--- `octets::get_u16` meets its contract: the part that it lends is the 2 bytes at the offset (`read-at`), so their number fits (`read-lt`).
+-- The part that it lends is the 2 bytes at the offset (`read-at`), so their number fits (`read-lt`).
 use native.Mathlib.Omega.{arith}
 use borrow.Author.Needs.{needs}
-use Rattle.octets.proofs.Widths.{read-at, read-lt}
+use Rattle.octets.proofs.Loops.{read-at, read-lt}
 use Rattle.octets.proofs.get_u16.Statement.{statement}
 use Rattle.octets.proofs.get_u16.Tie as tie
 
@@ -21,14 +21,19 @@ number-requires : tie.Need-number-requires
 number-requires c κs = search needs
 
 cast-result : tie.Need-cast-result
-cast-result c =
-    let a = c .before .before .before .args in
-    omega (arith, read-lt 2 (a .offset) (c .number .result) (a .bytes .now) (c .number .ensures) (λ k. c .before .before .shared-slice-known .given k .fits))
+cast-result c = let a = c .before .before .before .args in omega (arith, read-lt 2 (a .offset) (c .number .result) (a .bytes .now) (c .number .ensures) (λ k. c .before .before .shared-slice-known .given k .fits))
 
 returns : tie.Need-returns
-returns c =
-    let a = c .before .before .before .args in
-    read-at 2 (a .offset) (c .number .result) (a .bytes .now) (c .number .ensures)
+returns c = let a = c .before .before .before .args in read-at 2 (a .offset) (c .number .result) (a .bytes .now) (c .number .ensures)
 
 pub get-u16-spec : {M : Type 1} → statement M
-get-u16-spec = tie.close (tie.spec add-number sub-number part-number-start part-number-end number-requires cast-result returns)
+get-u16-spec =
+    tie.close
+    (tie.spec
+    add-number
+    sub-number
+    part-number-start
+    part-number-end
+    number-requires
+    cast-result
+    returns)

@@ -1,61 +1,62 @@
--- `records::get_record` meets its contract, field by field.
-use mathlib.Core.Path.{_≡_}
-use lib.ListN.{getD}
+-- `records::get_record` meets its contract: the numbers that `get_row` read, the first of which is a byte.
+use mathlib.Core.Path.{ap}
+use mathlib.Core.List.{List}
+use Prim.Native.Nat.{ℕ}
+use native.Mathlib.Omega.{arith}
 use borrow.Author.Needs.{needs}
-use Rattle.octets.specs.Bytes.{numberAt}
+use Rattle.octets.specs.Bytes.{Bytes, numbersIn}
+use Rattle.octets.specs.BytesLaws.{bytes-by}
+use Rattle.octets.specs.RowLaws.{numbersIn-fit}
+use Rattle.reading.specs.Layout.{recordWidths}
+use Rattle.records.specs.Due.{eventFrom}
 use Rattle.records.proofs.get_record.Statement.{statement}
 use Rattle.records.proofs.get_record.Tie as tie
 
-shared-slice-read-t3 : tie.Need-shared-slice-read-t3
-shared-slice-read-t3 c = search needs
+slice-aggregate-get-row : tie.Need-slice-aggregate-get-row
+slice-aggregate-get-row c = search needs
 
-get-u32-requires : tie.Need-get-u32-requires
-get-u32-requires c κs = search needs
+slice-aggregate-get-row-2 : tie.Need-slice-aggregate-get-row-2
+slice-aggregate-get-row-2 c = search needs
 
-cast-t5 : tie.Need-cast-t5
-cast-t5 c = search needs
+get-row-requires : tie.Need-get-row-requires
+get-row-requires c κs = search needs
 
-get-u32-requires-2 : tie.Need-get-u32-requires-2
-get-u32-requires-2 c κs = search needs
+array-read-t12 : tie.Need-array-read-t12
+array-read-t12 c = search needs
 
-cast-t7 : tie.Need-cast-t7
-cast-t7 c = search needs
+cast-t13 : tie.Need-cast-t13
+cast-t13 c =
+    let b : List ℕ = c .before .before .before .before .before .args .bytes .now in
+    let are : Bytes b = bytes-by b (λ i. c .before .before .before .before .shared-slice-known .given i .fits) in
+    let h = numbersIn-fit recordWidths b are .0 in
+    record { fits = rw (c .before .get-row .ensures) h }
 
-get-u32-requires-3 : tie.Need-get-u32-requires-3
-get-u32-requires-3 c κs = search needs
+array-read-t16 : tie.Need-array-read-t16
+array-read-t16 c = search needs
 
-cast-t9 : tie.Need-cast-t9
-cast-t9 c = search needs
+array-read-t19 : tie.Need-array-read-t19
+array-read-t19 c = search needs
 
-get-u32-requires-4 : tie.Need-get-u32-requires-4
-get-u32-requires-4 c κs = search needs
+array-read-t22 : tie.Need-array-read-t22
+array-read-t22 c = search needs
 
-cast-t11 : tie.Need-cast-t11
-cast-t11 c = search needs
+array-read-t25 : tie.Need-array-read-t25
+array-read-t25 c = search needs
 
 returns : tie.Need-returns
-returns c =
-    let c₃ = c .before in
-    let c₂ = c₃ .before in
-    let c₁ = c₂ .before in
-    let b = c₁ .before .before .before .args .bytes .now in
-    let start : c₁ .get-u32 .result ≡ numberAt 4 4 b = c₁ .get-u32 .ensures in
-    let duration : c₂ .get-u322 .result ≡ numberAt 8 4 b = c₂ .get-u322 .ensures in
-    let first : c₃ .get-u323 .result ≡ numberAt 12 4 b = c₃ .get-u323 .ensures in
-    let second : c .get-u324 .result ≡ numberAt 16 4 b = c .get-u324 .ensures in
-    λ i. record { kind = getD b 0 0; start = start i; duration = duration i; first = first i; second = second i }
+returns c = ap eventFrom (c .before .get-row .ensures)
 
 pub get-record-spec : {M : Type 1} → statement M
 get-record-spec =
     tie.close
     (tie.spec
-    shared-slice-read-t3
-    get-u32-requires
-    cast-t5
-    get-u32-requires-2
-    cast-t7
-    get-u32-requires-3
-    cast-t9
-    get-u32-requires-4
-    cast-t11
+    slice-aggregate-get-row
+    slice-aggregate-get-row-2
+    get-row-requires
+    array-read-t12
+    cast-t13
+    array-read-t16
+    array-read-t19
+    array-read-t22
+    array-read-t25
     returns)

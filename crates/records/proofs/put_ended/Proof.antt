@@ -8,6 +8,7 @@ use borrow.Author.Needs.{needs}
 use borrow.Rule.Slice.PartMut.{putMid}
 use Rattle.reading.specs.declared.Event.{Event}
 use Rattle.reading.specs.Records.{recordBytes}
+use Rattle.reading.specs.Layout.{recordLength}
 use Rattle.threshold.specs.declared.Ended.{Ended}
 use Rattle.threshold.specs.declared.Ended.the-variants.{Nothing, Over}
 use Rattle.threshold.specs.Standing.{listOf}
@@ -16,13 +17,13 @@ use Rattle.records.proofs.put_ended.Statement.{statement}
 use Rattle.records.proofs.put_ended.Tie as tie
 
 module _ (at : ℕ) (ended : Ended) (b : List ℕ) where
-  placed-none : ended ≡ Nothing → (at ≡ at + 20 * length (listOf ended)) × (b ≡ placed at (recordBytes (listOf ended)) b)
+  placed-none : ended ≡ Nothing → (at ≡ at + recordLength * length (listOf ended)) × (b ≡ placed at (recordBytes (listOf ended)) b)
   placed-none is = rw is (omega arith, rw take-append-drop)
 
   placed-one : (event : Event) (bytes : List ℕ) → ended ≡ Over event → bytes ≡ recordBytes (event ∷ [])
-      → (at + 20 ≡ at + 20 * length (listOf ended)) × (putMid at (at + 20 - at) b bytes ≡ placed at (recordBytes (listOf ended)) b)
+      → (at + recordLength ≡ at + recordLength * length (listOf ended)) × (putMid at (at + recordLength - at) b bytes ≡ placed at (recordBytes (listOf ended)) b)
   placed-one event bytes is bytes-are =
-      let k : at + 20 - at ≡ 20 = omega arith in
+      let k : at + recordLength - at ≡ recordLength = omega arith in
       rw is (omega arith, rw (k, bytes-are))
 
 enum-told : tie.Need-enum-told

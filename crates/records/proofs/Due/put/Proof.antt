@@ -8,6 +8,7 @@ use borrow.Author.Needs.{needs}
 use Rattle.reading.specs.declared.Event.{Event}
 use Rattle.reading.specs.Records.{recordBytes}
 use Rattle.reading.specs.Engineer.{over}
+use Rattle.reading.specs.Layout.{recordLength}
 use Rattle.threshold.specs.Standing.{listOf}
 use Rattle.records.specs.Due.{eventsOf, placed}
 use Rattle.records.specs.DueLaws.{length-eventsOf, placed-records}
@@ -16,7 +17,7 @@ use Rattle.records.proofs.Due.put.Tie as tie
 
 -- the records of four lists, placed one behind the other
 four-placed : (q₁ q₂ q₃ : ℕ) (es₁ es₂ es₃ es₄ : List Event) (b b₁ b₂ b₃ b₄ : List ℕ)
-    → q₁ ≡ 0 + 20 * length es₁ → q₂ ≡ q₁ + 20 * length es₂ → q₃ ≡ q₂ + 20 * length es₃
+    → q₁ ≡ 0 + recordLength * length es₁ → q₂ ≡ q₁ + recordLength * length es₂ → q₃ ≡ q₂ + recordLength * length es₃
     → b₁ ≡ over (recordBytes es₁) b → b₂ ≡ placed q₁ (recordBytes es₂) b₁ → b₃ ≡ placed q₂ (recordBytes es₃) b₂ → b₄ ≡ placed q₃ (recordBytes es₄) b₃
     → b₄ ≡ over (recordBytes (es₁ ++ (es₂ ++ (es₃ ++ es₄)))) b
 four-placed q₁ q₂ q₃ es₁ es₂ es₃ es₄ b b₁ b₂ b₃ b₄ e₁ e₂ e₃ h₁ h₂ h₃ h₄ =

@@ -1,7 +1,7 @@
 -- The nine places hold the numbers that `get_words` read, and the settings are made of them in order.
 use mathlib.Core.Path.{ap}
 use borrow.Author.Needs.{needs}
-use Rattle.settings.specs.SettingsLaws.{settingsFrom}
+use Rattle.settings.specs.Settings.{settingsFrom}
 use Rattle.settings.proofs.Settings.unchecked.Statement.{statement}
 use Rattle.settings.proofs.Settings.unchecked.Tie as tie
 

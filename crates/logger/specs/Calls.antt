@@ -1,0 +1,25 @@
+-- The logger's calls. The contract of each function of `Logger` is an equation with its field here, and demand 3 is claimed of these fields.
+use Rattle.numbers.specs.Answers.{Answered}
+use Rattle.numbers.specs.Answers.Answered.{accepted, refused}
+use Rattle.settings.specs.declared.Settings.{Settings}
+use Rattle.settings.specs.Settings.{settingsRead}
+use Rattle.reading.specs.Calls.{Calls}
+use Rattle.state.specs.declared.State.{State}
+use Rattle.state.specs.State.{fresh, readingsOf}
+use Rattle.state.specs.Calls.{fedWith}
+use Rattle.image.specs.Image.{saveAnswer, savedBytes, restoredBy}
+use Rattle.logger.specs.Logger.{savedTo}
+
+-- start: the fresh logger of settings that were read, or their refusal
+abbrev pub startedFrom : Answered Settings → Answered State
+startedFrom (accepted s) = accepted (fresh s)
+startedFrom (refused n) = refused n
+
+abbrev pub loggerCalls : Calls State
+loggerCalls = record {
+  start = λ b. startedFrom (settingsRead b);
+  feed = fedWith;
+  look = readingsOf;
+  save = λ st lent. savedTo (saveAnswer lent) (savedBytes st lent);
+  restore = restoredBy;
+}

@@ -1,0 +1,67 @@
+-- 01, "The record", "The image" and the reply of advance: how wide each number is. Lengths and places follow as sums; 01's own figures are `layout` of Bench.
+use mathlib.Core.List.{List, [], _∷_}
+use Prim.Native.Nat.{ℕ, _+_, _*_}
+use lib.ListN.{replicate}
+use Rattle.octets.specs.Bytes.{total}
+use Rattle.settings.specs.Settings.{settingsLength}
+
+-- a record: kind, zero bytes, start, duration, first and second magnitude
+abbrev pub recordWidths : List ℕ
+recordWidths = 1 ∷ 3 ∷ 4 ∷ 4 ∷ 4 ∷ 4 ∷ []
+
+abbrev pub recordLength : ℕ
+recordLength = total recordWidths
+
+-- an entry of the table of contents, one for each body: code, offset, length
+abbrev pub entryWidths : List ℕ
+entryWidths = 4 ∷ 2 ∷ 2 ∷ []
+
+abbrev pub tableLength : ℕ
+tableLength = 4 * total entryWidths
+
+-- body 2: count, sum, last sum, mark
+abbrev pub gathererWidths : List ℕ
+gathererWidths = 4 ∷ 8 ∷ 8 ∷ 4 ∷ []
+
+abbrev pub gathererLength : ℕ
+gathererLength = total gathererWidths
+
+-- body 3: V, then 120 places
+abbrev pub places : ℕ
+places = 120
+
+abbrev pub valuesWidths : List ℕ
+valuesWidths = 4 ∷ replicate places 4
+
+abbrev pub valuesLength : ℕ
+valuesLength = total valuesWidths
+
+-- body 4: the phase and a change's four numbers; start and magnitude of dip, swell and interruption
+abbrev pub eventsWidths : List ℕ
+eventsWidths = replicate 11 4
+
+abbrev pub eventsLength : ℕ
+eventsLength = total eventsWidths
+
+-- the table and the bodies stand one behind the other
+abbrev pub settingsOffset : ℕ
+settingsOffset = tableLength
+
+abbrev pub gathererOffset : ℕ
+gathererOffset = settingsOffset + settingsLength
+
+abbrev pub valuesOffset : ℕ
+valuesOffset = gathererOffset + gathererLength
+
+abbrev pub eventsOffset : ℕ
+eventsOffset = valuesOffset + valuesLength
+
+abbrev pub imageLength : ℕ
+imageLength = eventsOffset + eventsLength
+
+-- advance's reply: taken, written, why
+abbrev pub replyWidths : List ℕ
+replyWidths = 8 ∷ 8 ∷ 8 ∷ []
+
+abbrev pub replyLength : ℕ
+replyLength = total replyWidths

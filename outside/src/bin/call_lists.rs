@@ -1,0 +1,84 @@
+//! Runs the program `call_lists` on random lists of calls, always the same ones under a seed, and
+//! compares what it prints with what the whole recording says.
+//!
+//! call_lists LISTS SEED --program PATH [--require-all]
+//! call_lists --list SEED NUMBER --program PATH
+//! call_lists --files FOLDER
+
+use outside::arguments::Arguments;
+use outside::call_lists::{files, list, List, Tally};
+use outside::programs::{pieces, printed};
+use outside::rng::Rng;
+use outside::seen::tell;
+use std::process::exit;
+
+const USAGE: &str = "call_lists LISTS SEED --program PATH [--require-all]
+call_lists --list SEED NUMBER --program PATH
+call_lists --files FOLDER";
+
+/// What differs first between the text that was printed and the list's.
+fn difference(list: &List, printed: &[u8]) -> Option<String> {
+    if printed == list.text.as_bytes() {
+        return None;
+    }
+    let printed = String::from_utf8_lossy(printed);
+    let mut lines = printed.lines();
+    for (j, line) in list.text.lines().enumerate() {
+        let other = lines.next().unwrap_or("the end");
+        if line != other {
+            return Some(format!("line {}: {other}\nnot {line}", j + 1));
+        }
+    }
+    Some("more lines, or no end of the last one".into())
+}
+
+/// Runs one list; on a difference tells it and ends with 1.
+fn run(seed: u64, number: u64, program: &str, seen: &mut Tally) {
+    let mut rng = Rng::of_case(seed, number);
+    let list = list(&mut rng, seen);
+    let pieces = pieces(&mut rng, list.input.len());
+    let text = match printed(program, &list.input, &pieces) {
+        Ok(printed) => difference(&list, &printed),
+        Err(text) => Some(text),
+    };
+    if let Some(text) = text {
+        println!("different: {text}");
+        println!("replay: call_lists --list {seed} {number} --program {program}");
+        exit(1)
+    }
+}
+
+/// Writes the program's input in the gate, and what it must write.
+fn write_files(folder: &str) {
+    let (input, text) = files();
+    std::fs::write(format!("{folder}/stdin"), input).expect("the input cannot be written");
+    std::fs::write(format!("{folder}/stdout"), text).expect("the text cannot be written");
+}
+
+fn main() {
+    let mut args = Arguments::new(USAGE);
+    if let Some(words) = args.flag("--files", 1) {
+        args.numbers(0);
+        return write_files(&words[0]);
+    }
+    let require_all = args.flag("--require-all", 0).is_some();
+    let one_list = args.flag("--list", 2);
+    let Some(program) = args.flag("--program", 1).map(|x| x[0].clone()) else { args.usage() };
+    let mut seen = Tally::default();
+    if let Some(words) = one_list {
+        args.numbers(0);
+        run(args.number(&words[0]), args.number(&words[1]), &program, &mut seen);
+        println!("1 lists, 0 different");
+        return;
+    }
+    let numbers = args.numbers(2);
+    let (lists, seed) = (numbers[0], numbers[1]);
+    for number in 0..lists {
+        run(seed, number, &program, &mut seen);
+    }
+    let all_seen = tell(&seen.counts());
+    if require_all && !all_seen {
+        exit(1);
+    }
+    println!("{lists} lists, 0 different");
+}

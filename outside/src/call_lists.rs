@@ -1,0 +1,368 @@
+//! Lists of calls as the program `call_lists` reads them, and the text that it must print: read from
+//! the whole recording by the engineer, and after a restore of accepted bytes, which have no
+//! recording, by the stepper. The form of the input stands in the head of the program's source.
+
+use crate::engineer::{Answer, Call, Engineer, Fed, Looked};
+use crate::images::{self, Fields};
+use crate::lists::next_call;
+use crate::readings::energy;
+use crate::rng::{one_of, Rng};
+use crate::room::RECORD;
+use crate::rules::{self, settings_bytes, Settings, IMAGE};
+use crate::{stepper, waves};
+
+/// The most samples that follow an item, and the saves that the program keeps.
+const MOST_SAMPLES: usize = 32_767;
+const PLACES: usize = 16;
+/// The longest record buffer: enough for most blocks, and not too much to print.
+const ROOM: usize = 400;
+/// How many lists the gate runs the program on in one go, and their seed.
+const FILES_LISTS: u64 = 12;
+const FILES_SEED: u64 = 2645;
+
+/// The kinds of item, in the program's numbers.
+const START: u8 = 0;
+const FEED: u8 = 1;
+const LOOK: u8 = 2;
+const SAVE: u8 = 3;
+const RESTORE_SAVE: u8 = 4;
+const RESTORE_BYTES: u8 = 5;
+const GATHER: u8 = 6;
+
+/// What has been seen.
+#[derive(Default)]
+pub struct Tally {
+    /// Items, by kind.
+    items: [u64; 7],
+    /// Refusals, 1 to 11.
+    refusals: [u64; 12],
+    whys: [u64; 3],
+    /// Records, by kind, 1 to 4.
+    records: [u64; 5],
+    /// Phases, and dips, swells and interruptions that stand, in what look tells.
+    phases: [u64; 4],
+    stand: [u64; 3],
+    /// Restores of a save that set the logger back, and of accepted bytes.
+    set_back: u64,
+    accepted: u64,
+}
+
+impl Tally {
+    /// Every count under its name.
+    pub fn counts(&self) -> Vec<(String, u64)> {
+        let items =
+            ["start", "feed", "look", "save", "restore of a save", "restore of bytes", "gather"];
+        let kinds = ["dip", "swell", "interruption", "rvc"];
+        let mut list = vec![("calls".to_string(), self.items.iter().sum())];
+        let mut add = |name: String, count: u64| list.push((name, count));
+        for (name, count) in items.iter().zip(self.items) {
+            add(format!("  {name}"), count);
+        }
+        for number in 1..=11 {
+            add(format!("refused {number}"), self.refusals[number]);
+        }
+        for (why, count) in self.whys.into_iter().enumerate() {
+            add(format!("why {why}"), count);
+        }
+        for (name, count) in kinds.iter().zip(&self.records[1..]) {
+            add(format!("record {name}"), *count);
+        }
+        add("restores that set back".into(), self.set_back);
+        add("restores of accepted bytes".into(), self.accepted);
+        for (phase, count) in self.phases.into_iter().enumerate() {
+            add(format!("look in phase {phase}"), count);
+        }
+        for (name, count) in kinds.iter().zip(self.stand) {
+            add(format!("look, {name} stands"), count);
+        }
+        list
+    }
+}
+
+/// A save that is kept.
+enum Save {
+    /// The engineer's, by its place among the engineer's saves.
+    Recording(usize),
+    /// The stepper's image.
+    Image(Vec<u8>),
+}
+
+/// What answers the calls.
+struct Measure {
+    engineer: Engineer,
+    recordings: usize,
+    /// After a restore of accepted bytes: the image that the stepper goes on from.
+    held: Option<Vec<u8>>,
+    /// Each accepted save, and its image.
+    saves: Vec<(Save, Vec<u8>)>,
+}
+
+impl Measure {
+    fn image(&self) -> Vec<u8> {
+        self.held.clone().unwrap_or_else(|| self.engineer.image())
+    }
+
+    fn feed(&mut self, block: &[i16], room: usize) -> (Fed, Vec<u8>) {
+        let Some(image) = &mut self.held else { return self.engineer.feed(block, room) };
+        let (mut new, mut records, mut reply) = (vec![0; IMAGE], vec![0; room], [0; 24]);
+        let samples = waves::bytes(block);
+        assert_eq!(stepper::advance(image, &samples, &mut new, &mut records, &mut reply), 0);
+        *image = new;
+        let [taken, written, why] = [0, 8, 16].map(|at| rules::eight(&reply, at) as u64);
+        records.truncate(RECORD * written as usize);
+        (Fed { taken, written, why }, records)
+    }
+
+    fn look(&self) -> Looked {
+        match &self.held {
+            Some(image) => Fields::of(image).look(),
+            None => self.engineer.look(),
+        }
+    }
+
+    fn save(&mut self, length: usize) -> Result<Vec<u8>, u32> {
+        if length < IMAGE {
+            return Err(7);
+        }
+        let image = self.image();
+        let save = if self.held.is_some() {
+            Save::Image(image.clone())
+        } else {
+            let Answer::Save(0, saved) = self.engineer.call(&Call::Save { length }) else {
+                unreachable!()
+            };
+            assert_eq!(saved, image);
+            self.recordings += 1;
+            Save::Recording(self.recordings - 1)
+        };
+        self.saves.push((save, image.clone()));
+        Ok(image)
+    }
+
+    fn restore_save(&mut self, name: usize) {
+        self.held = match &self.saves[name].0 {
+            Save::Image(image) => Some(image.clone()),
+            Save::Recording(name) => {
+                self.engineer.call(&Call::RestoreSave { name: *name });
+                None
+            }
+        };
+    }
+
+    fn restore_bytes(&mut self, bytes: &[u8]) -> u32 {
+        let number = rules::restore(bytes);
+        if number == 0 {
+            self.held = Some(bytes.to_vec());
+        }
+        number
+    }
+}
+
+/// A list: the program's input, and the text that it must print.
+#[derive(Default)]
+pub struct List {
+    pub input: Vec<u8>,
+    pub text: String,
+}
+
+fn hex(bytes: &[u8]) -> String {
+    bytes.iter().map(|x| format!("{x:02x}")).collect()
+}
+
+/// A buffer of this length, every byte of it `fill`, with bytes written at its start.
+fn buffer(length: usize, fill: u8, written: &[u8]) -> String {
+    let mut bytes = vec![fill; length];
+    bytes[..written.len()].copy_from_slice(written);
+    hex(&bytes)
+}
+
+impl List {
+    fn item(&mut self, kind: u8, fill: u8, number: usize, bytes: &[u8]) {
+        self.input.extend([kind, fill]);
+        for x in [number, bytes.len()] {
+            self.input.extend(u16::try_from(x).unwrap().to_le_bytes());
+        }
+        self.input.extend(bytes);
+    }
+
+    /// A call, and the answer to it. What feed took is taken out of the samples to come.
+    fn call(&mut self, call: Call, fill: u8, measure: &mut Measure, seen: &mut Tally) -> usize {
+        let (kind, taken, line) = match call {
+            Call::Feed { mut block, room } => {
+                block.truncate(MOST_SAMPLES);
+                let room = room.min(ROOM);
+                let mut bytes = waves::bytes(&block);
+                // A last odd byte is no sample.
+                bytes.extend((fill % 8 == 0).then_some(fill));
+                self.item(FEED, fill, room, &bytes);
+                let (fed, records) = measure.feed(&block, room);
+                seen.whys[fed.why as usize] += 1;
+                records.chunks(RECORD).for_each(|x| seen.records[x[0] as usize] += 1);
+                let told = format!("feed {} {} {}", fed.taken, fed.written, fed.why);
+                let line = format!("{told} {}", buffer(room, fill, &records));
+                (FEED, fed.taken as usize, line)
+            }
+            Call::Look => {
+                self.item(LOOK, fill, 0, &[]);
+                let Looked { v, r, a, phase, stand } = measure.look();
+                seen.phases[phase as usize] += 1;
+                (0..3).filter(|&e| stand[e]).for_each(|e| seen.stand[e] += 1);
+                let [dip, swell, interruption] = stand.map(|x| x as u8);
+                let line = format!("look {v} {r} {a} {phase} {dip} {swell} {interruption}");
+                (LOOK, 0, line)
+            }
+            Call::Save { length } => {
+                self.item(SAVE, fill, length, &[]);
+                let (number, image) = match measure.save(length) {
+                    Ok(image) => (0, image),
+                    Err(number) => (number, Vec::new()),
+                };
+                seen.refusals[number as usize] += 1;
+                (SAVE, 0, format!("save {number} {}", buffer(length, fill, &image)))
+            }
+            Call::RestoreSave { name } => {
+                self.item(RESTORE_SAVE, fill, name, &[]);
+                if measure.saves[name].1 != measure.image() {
+                    seen.set_back += 1;
+                }
+                measure.restore_save(name);
+                (RESTORE_SAVE, 0, "restore 0".into())
+            }
+            Call::RestoreBytes { bytes } => {
+                self.item(RESTORE_BYTES, fill, 0, &bytes);
+                let number = measure.restore_bytes(&bytes);
+                seen.refusals[number as usize] += 1;
+                seen.accepted += (number == 0) as u64;
+                (RESTORE_BYTES, 0, format!("restore {number}"))
+            }
+        };
+        seen.items[kind as usize] += 1;
+        self.text += &line;
+        self.text.push('\n');
+        taken
+    }
+
+    /// An item that the program skips.
+    fn skipped(&mut self, rng: &mut Rng, saves: usize) {
+        match rng.range(0, 2) {
+            0 => {
+                self.item(RESTORE_SAVE, 0, saves + rng.range(0, 20) as usize, &[]);
+                self.text += "none\n";
+            }
+            1 => self.item(GATHER, 0, one_of(&[0, 257, 65_535], rng), &[1; 40]),
+            _ => self.item(rng.range(7, 255) as u8, 0, 7, &[7; 7]),
+        }
+    }
+
+    /// The gatherer, sample by sample and by parts: both must hold what the samples' halves are.
+    fn gather(&mut self, samples: &[i16], m: usize, seen: &mut Tally) {
+        self.item(GATHER, 0, m, &waves::bytes(samples));
+        seen.items[GATHER as usize] += 1;
+        let halves = samples.len() / m;
+        let rest = &samples[halves * m..];
+        let last = if halves > 0 { energy(&samples[(halves - 1) * m..halves * m]) } else { 0 };
+        let whole = (halves > 0) as u8;
+        let state = format!("{} {} {last} {whole} {halves}", rest.len(), energy(rest));
+        self.text += &format!("samples {state}\nparts {state}\n");
+    }
+}
+
+/// A list: most often of calls on good settings, and then a look and a save.
+pub fn list(rng: &mut Rng, seen: &mut Tally) -> List {
+    let bytes = if rng.chance(15) {
+        waves::bad_settings(rng)
+    } else {
+        settings_bytes(&waves::settings(rng))
+    };
+    let fill = rng.next() as u8;
+    let mut list = List::default();
+    seen.items[START as usize] += 1;
+    match Engineer::start(&bytes) {
+        Err(number) => {
+            list.item(START, fill, 0, &bytes);
+            seen.refusals[number as usize] += 1;
+            list.text = format!("refused {number}\n");
+        }
+        Ok(engineer) => {
+            let calls = rng.range(1, 25);
+            list.item(START, fill, calls as usize + 2, &bytes);
+            list.text = "start\n".into();
+            let mut measure = Measure { engineer, recordings: 0, held: None, saves: Vec::new() };
+            make_calls(
+                rng,
+                &rules::settings(&bytes).unwrap(),
+                calls,
+                &mut list,
+                &mut measure,
+                seen,
+            );
+            // What the list leaves: the readings, and every byte of the image.
+            list.call(Call::Look, fill, &mut measure, seen);
+            list.call(Call::Save { length: IMAGE }, fill, &mut measure, seen);
+            if measure.held.is_none() {
+                assert_eq!(measure.engineer.written(), measure.engineer.due());
+            }
+        }
+    }
+    list
+}
+
+/// The lists that the gate runs the program on: its input, and what it must write.
+pub fn files() -> (Vec<u8>, String) {
+    let mut seen = Tally::default();
+    let lists: Vec<List> =
+        (0..FILES_LISTS).map(|x| list(&mut Rng::of_case(FILES_SEED, x), &mut seen)).collect();
+    let input = lists.iter().flat_map(|x| x.input.clone()).collect();
+    let text = lists.iter().map(|x| x.text.as_str()).collect();
+    (input, text)
+}
+
+fn make_calls(
+    rng: &mut Rng,
+    s: &Settings,
+    calls: i64,
+    list: &mut List,
+    measure: &mut Measure,
+    seen: &mut Tally,
+) {
+    let halves = match s.m {
+        ..=16 => rng.range(1, 5 * s.n),
+        17..=40 => rng.range(1, 3 * s.n),
+        _ => rng.range(1, s.n + 20),
+    };
+    let mut source = waves::wave(rng, s, halves);
+    // In some lists, bytes that no save gives and that restore accepts.
+    let strange = rng.chance(25);
+    for j in 0..calls {
+        if source.is_empty() && rng.chance(40) {
+            let halves = rng.range(1, s.n);
+            source = waves::wave(rng, s, halves);
+        }
+        let fill = rng.next() as u8;
+        let saves = measure.saves.len().min(PLACES);
+        match rng.range(0, 99) {
+            0..=4 => {
+                let length = rng.range(0, source.len().min(3000) as i64) as usize;
+                let m = one_of(&[s.m, s.m, 8, 256, rng.range(1, 256)], rng) as usize;
+                list.gather(&source[..length], m, seen);
+                continue;
+            }
+            5 => {
+                list.skipped(rng, saves);
+                continue;
+            }
+            _ => {}
+        }
+        let call = if strange && rng.chance(15) {
+            Call::RestoreBytes { bytes: images::accepted(rng, *s) }
+        } else {
+            next_call(rng, s, &source, saves, &measure.image(), calls - j)
+        };
+        let call = match call {
+            Call::RestoreBytes { bytes } if !strange && rules::restore(&bytes) == 0 => Call::Look,
+            other => other,
+        };
+        let taken = list.call(call, fill, measure, seen);
+        source.drain(..taken);
+    }
+}
