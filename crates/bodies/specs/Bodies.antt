@@ -62,12 +62,16 @@ detectorFrom v ns = record {
   phase = phaseOfNumber (getD ns 0 0) (changeFrom ns);
 }
 
--- a good section has no refusal; the number of a bad one
-abbrev pub verdictNumber : ℕ → Verdict → ℕ
-verdictNumber n Good = 0
-verdictNumber n Bad = n
+-- the verdict on the table, and on body 3
+abbrev pub tableNumber : Verdict → ℕ
+tableNumber Good = 0
+tableNumber Bad = 9
 
--- the table's
+abbrev pub valuesNumber : Verdict → ℕ
+valuesNumber Good = 0
+valuesNumber Bad = 11
+
+-- the table's refusal
 abbrev pub tableRefusal : List ℕ → ℕ
 tableRefusal b = refuse 9 unless sameBytes b table then 0
 
@@ -85,7 +89,7 @@ gathererAnswer s body = let ns = numbersIn gathererWidths body in answered (body
 
 -- body 3: its verdict, V, and the places, good or not
 pub record WindowTold (s : Settings) (whole : Bool) (body : List ℕ) (r : WindowRead) : Type 0 where
-  pub number-is : verdictNumber 11 (r .verdict) ≡ bodyRefusal (valuesRule (windowLength s) (flag whole) (numbersIn valuesWidths body))
+  pub number-is : valuesNumber (r .verdict) ≡ bodyRefusal (valuesRule (windowLength s) (flag whole) (numbersIn valuesWidths body))
   pub count-is : r .count ≡ getD (numbersIn valuesWidths body) 0 0
   pub window-is : r .window ≡ drop 1 (numbersIn valuesWidths body)
 

@@ -1,6 +1,6 @@
 -- Each body there and back, both ways, over its numbers: an allowed state's numbers fit their row, are allowed, and are read back as that state; allowed numbers are
 -- those of the state that is read from them, which is allowed. And the table's test passes for equal bytes only.
-use mathlib.Core.Path.{_≡_, refl, sym, _∙_, ap, ap₂}
+use mathlib.Core.Path.{_≡_, refl, sym, ap, ap₂}
 use mathlib.Core.Bool.{true}
 use mathlib.Core.List.{List, [], _∷_, _++_}
 use Prim.Native.Nat.{ℕ, zero, suc, _≤_, _<_, _^_}
@@ -11,18 +11,18 @@ use Rattle.octets.specs.RowLaws.{Fit, fits-fours}
 use Rattle.numbers.specs.Notation.{_≡ᵇ_}
 use Rattle.numbers.specs.NotationLaws.{and-left, and-right, flag-most, flag-back, back-flag}
 use Rattle.numbers.specs.Rules.{Holds}
-use Rattle.reading.specs.Layout.{places, gathererWidths, valuesWidths, eventsWidths}
+use Rattle.reading.specs.Layout.{gathererWidths, valuesWidths, eventsWidths}
 use Rattle.reading.specs.Feed.{lastValue}
 use Rattle.reading.specs.Restore.{sameBytes, phaseRule, eventsRule}
 use Rattle.rms.specs.declared.Gatherer.{Gatherer}
 use Rattle.rms.specs.Gather.{gathererRow, ValidGatherer}
 use Rattle.threshold.specs.declared.Standing.{Standing}
-use Rattle.window.specs.Window.{Small, ValidWindow}
+use Rattle.window.specs.Window.{ValidWindow}
 use Rattle.rvc.specs.declared.Change.{Change}
 use Rattle.rvc.specs.declared.Phase.{Phase}
 use Rattle.rvc.specs.declared.Phase.the-variants.{Filling, Unsettled, Steady, Changing}
 use Rattle.rvc.specs.Phase.{changeRow, phaseRow, ValidPhase}
-use Rattle.rvc.specs.PhaseRules.{Allowed, full, allowed-valid, valid-allowed}
+use Rattle.rvc.specs.PhaseRuleLaws.{Allowed, full, allowed-valid, valid-allowed}
 use Rattle.detection.specs.declared.Detector.{Detector}
 use Rattle.detection.specs.Detection.{ValidDetector}
 use Rattle.bodies.specs.Bodies.{standingRow, detectorRow, gathererFrom, phaseOfNumber, detectorFrom}

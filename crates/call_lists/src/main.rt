@@ -20,7 +20,6 @@
 // restore of another prints `none`. A gather with a half-cycle of 0 samples or of more than 256 is skipped, and so is an item of another kind in a list. The
 // program ends with the input, or where a start should stand and does not.
 use bodies::IMAGE_LENGTH;
-use image::Acceptance;
 use libc::STDIN_FILENO;
 use libc::STDOUT_FILENO;
 use logger::Logger;
@@ -34,6 +33,7 @@ ghost use Prim.Native.Nat.{_*_, _≤_, _<_};
 ghost use lib.ListN.{length};
 ghost use Rattle.rms.specs.Gather.{gathered, ValidGatherer};
 ghost use Rattle.state.specs.State.{ValidState};
+ghost use Rattle.reading.specs.Layout.{imageLength};
 
 const START: u8 = 0;
 
@@ -246,7 +246,7 @@ fn copy(to: &mut [u8], from: &[u8])
 
 // Keeps a saved image in the next place, if there is one; tells how many are kept.
 fn keep(saves: &mut [u8], kept: usize, image: &[u8]) -> usize
-    requires { ⌜ (length (now saves) ≡ 9920) × (kept ≤ 16) ⌝ }
+    requires { ⌜ (length (now saves) ≡ 16 * imageLength) × (kept ≤ 16) ⌝ }
     ensures { λ r. ⌜ r ≤ 16 ⌝ }
 {
     if image.len() < IMAGE_LENGTH {
@@ -263,7 +263,7 @@ fn keep(saves: &mut [u8], kept: usize, image: &[u8]) -> usize
 
 // Saves into this buffer; tells how many saves are kept then.
 fn save(logger: Logger, image: &mut [u8], fill: u8, saves: &mut [u8], kept: usize) -> usize
-    requires { ⌜ (length (now image) ≤ 65535) × (length (now saves) ≡ 9920) × (kept ≤ 16) ⌝ }
+    requires { ⌜ (length (now image) ≤ 65535) × (length (now saves) ≡ 16 * imageLength) × (kept ≤ 16) ⌝ }
     ensures { λ r. ⌜ r ≤ 16 ⌝ }
 {
     set_all(image, fill);
@@ -277,25 +277,18 @@ fn save(logger: Logger, image: &mut [u8], fill: u8, saves: &mut [u8], kept: usiz
     keep(saves, kept, image)
 }
 
-fn number_of(answer: Acceptance) -> u64 {
-    match answer {
-        Acceptance::Accepted => 0,
-        Acceptance::Refused(number) => number as u64,
-    }
-}
-
 fn restore(logger: Logger, bytes: &[u8]) -> Logger
     requires { ⌜ ValidState (logger .state) ⌝ }
     ensures { λ r. ⌜ ValidState (r .state) ⌝ }
 {
     let resumed = logger.restore(bytes);
     let answer = resumed.answer;
-    print_answer(b"restore", number_of(answer));
+    print_answer(b"restore", answer.number() as u64);
     resumed.logger
 }
 
 fn restore_save(logger: Logger, saves: &[u8], kept: usize, which: usize) -> Logger
-    requires { ⌜ ValidState (logger .state) × (length (now saves) ≡ 9920) × (kept ≤ 16) ⌝ }
+    requires { ⌜ ValidState (logger .state) × (length (now saves) ≡ 16 * imageLength) × (kept ≤ 16) ⌝ }
     ensures { λ r. ⌜ ValidState (r .state) ⌝ }
 {
     if which < kept {
@@ -407,7 +400,7 @@ fn make_call(list: List, item: Item, bytes: &[u8], space: &mut [u8], saves: &mut
         × (list .kept ≤ 16)
         × (length (now bytes) ≤ 65535)
         × (length (now space) ≡ 65535)
-        × (length (now saves) ≡ 9920) ⌝ }
+        × (length (now saves) ≡ 16 * imageLength) ⌝ }
     ensures { λ r. ⌜ ValidState (r .logger .state) × (r .kept ≤ 16) ⌝ }
 {
     let logger = list.logger;

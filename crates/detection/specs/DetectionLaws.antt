@@ -21,7 +21,7 @@ use Rattle.rvc.specs.declared.Joining.{Joining}
 use Rattle.rvc.specs.declared.Moved.{Moved}
 use Rattle.rvc.specs.Phase.{joiningOf, movedBy, movedOn, movedAfter, Joins}
 use Rattle.rvc.specs.PhaseLaws.{joins, steady-is}
-use Rattle.rvc.specs.PhaseRules.{valid-allowed}
+use Rattle.rvc.specs.PhaseRuleLaws.{valid-allowed}
 use Rattle.detection.specs.declared.Detector.{Detector}
 use Rattle.detection.specs.declared.Tried.{Tried}
 use Rattle.detection.specs.Detection.{stepOf, standsAt, detectorAfter, dueBy, triedBy, TryReady}

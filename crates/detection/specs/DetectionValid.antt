@@ -13,7 +13,7 @@ use Rattle.window.specs.Window.{windowOf, Small, ValidWindow}
 use Rattle.window.specs.WindowValid.{windowOf-valid}
 use Rattle.records.specs.DueLaws.{eventsOf-most}
 use Rattle.rvc.specs.PhaseValid.{phase-valid}
-use Rattle.rvc.specs.PhaseRules.{allowed-valid}
+use Rattle.rvc.specs.PhaseRuleLaws.{allowed-valid}
 use Rattle.rvc.specs.declared.Phase.the-variants.{Filling}
 use Rattle.detection.specs.declared.Detector.{Detector}
 use Rattle.detection.specs.Detection.{detectorAfter, dueBy, dueAt, detectorOf, ValidDetector}
@@ -36,7 +36,12 @@ module _ (s : Settings) where
 
   -- the detector that a history leaves is allowed
   pub detectorOf-valid : (hist : List ℕ) → Small hist → ValidDetector (windowLength s) (detectorOf s hist)
-  detectorOf-valid [] small = record { dip-valid = noEvent-valid 0; swell-valid = noEvent-valid 0; interruption-valid = noEvent-valid 0; phase-valid = allowed-valid (windowLength s) 0 Filling (windowLength-some s) }
+  detectorOf-valid [] small = record {
+    dip-valid = noEvent-valid 0;
+    swell-valid = noEvent-valid 0;
+    interruption-valid = noEvent-valid 0;
+    phase-valid = allowed-valid (windowLength s) 0 Filling (windowLength-some s);
+  }
   detectorOf-valid (r ∷ older) small =
       let n = windowLength s in
       let window = windowOf-valid n older (windowLength-some s) (windowLength-most s) (λ i. small (suc i)) in

@@ -89,7 +89,7 @@ module _ (xs : List ℤ) (at : ℕ) (lent : List ℕ) (st : State) {end : State}
       ∙ ap (λ (o : Outcome State). rest (drop at xs) (logger (o .after)) (o .told .taken) (o .told .why)) (sym fed-is)
       ∙ (λ i. if told .why ≡ᵇ 1 then fedAllFrom (logger end) (drop-drop (told .taken) at xs i) else record { logger = logger end; why = told .why })
 
-  pub turn-less : at ≤ length xs → 80 ≤ length lent → toFeed xs (at + told .taken) (told .why) < toFeed xs at 1
+  pub turn-less : at ≤ length xs → 4 * recordLength ≤ length lent → toFeed xs (at + told .taken) (told .why) < toFeed xs at 1
   turn-less inside four = go (told .why ≡ᵇ 1) refl
     where
       go : (b : Bool) → (told .why ≡ᵇ 1) ≡ b → length xs - (at + told .taken) + (if b then 1 else 0) < length xs - at + 1

@@ -128,15 +128,17 @@ unfolding column
 column-is n k b h few e = ap (λ (l : List ℕ). 32 ∷ l) (e ∙ digits-decimal 20 k n (digits-most n k h few) few)
 
 -- one record of a buffer, and its line behind those of the records before it
-pub record-length : (records : List ℕ) (i : ℕ) → recordLength * i + 20 ≤ length records → length (take (recordLength * i + 20 - recordLength * i) (drop (recordLength * i) records)) ≡ 20
+pub record-length : (records : List ℕ) (i : ℕ) → recordLength * i + recordLength ≤ length records
+    → length (take (recordLength * i + recordLength - recordLength * i) (drop (recordLength * i) records)) ≡ recordLength
 record-length records i h =
-    let n : recordLength * i + 20 - recordLength * i ≡ 20 = omega arith in
-    length-take-le (recordLength * i + 20 - recordLength * i) (drop (recordLength * i) records) (omega (arith, length-drop (recordLength * i) records)) ∙ n
+    let n : recordLength * i + recordLength - recordLength * i ≡ recordLength = omega arith in
+    length-take-le (recordLength * i + recordLength - recordLength * i) (drop (recordLength * i) records) (omega (arith, length-drop (recordLength * i) records)) ∙ n
 
-pub lines-next : (records t u : List ℕ) (i at b : ℕ) (e : Event) → take at t ≡ linesOf i records → e ≡ eventOf (take (recordLength * i + 20 - recordLength * i) (drop (recordLength * i) records))
+pub lines-next : (records t u : List ℕ) (i at b : ℕ) (e : Event) → take at t ≡ linesOf i records
+    → e ≡ eventOf (take (recordLength * i + recordLength - recordLength * i) (drop (recordLength * i) records))
     → Put t at (lineOf e) b u → take b u ≡ linesOf (i + 1) records
 lines-next records t u i at b e before is p =
-    let n : recordLength * i + 20 - recordLength * i ≡ 20 = omega arith in
+    let n : recordLength * i + recordLength - recordLength * i ≡ recordLength = omega arith in
     let k : suc i ≡ i + 1 = omega arith in
     p .text-is
     ∙ (λ j. before j ++ lineOf (is j))

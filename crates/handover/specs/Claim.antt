@@ -34,7 +34,7 @@ module _ {L : Type 0} (C : Calls L) where
   loggerAnswer w (restoreSave j) = restored (refusalIn (C .restore (w .logger) (getD (w .images) j []) .answer))
   loggerAnswer w (restoreRefused bytes) = restored (refusalIn (C .restore (w .logger) bytes .answer))
 
-  -- a feed's records are the first bytes of its buffer, 20 for each; an accepted save's image is the first imageLength; an accepted restore of a save sets the
+  -- a feed's records are the first bytes of its buffer, recordLength for each; an accepted save's image is the first imageLength; an accepted restore of a save sets the
   -- records back to those at that save
   abbrev pub callerAfter : Caller L → Call → Caller L
   callerAfter w (feed block lent) =

@@ -42,7 +42,7 @@ pub record Demand2 (C : Calls State) : Type 0 where
   -- and is valid, whether or not a recording gives its image
   pub restored-valid : (old : State) (b : List ℕ) → Bytes b → C .restore old b .answer ≡ accepted tt → ValidState (C .restore old b .after)
   -- each feed takes the greatest number of samples that 01 allows, and tells taken, written and why as 01 says
-  pub feed-most : (st : State) → ValidState st → (block : List ℤ) (lent : List ℕ) → FedMost st block lent (C .feed st block lent)
+  pub feed-most : (st : State) (block : List ℤ) (lent : List ℕ) → FedMost st block lent (C .feed st block lent)
   -- with room for four records, and V short of its end, it takes at least one sample of a block that is not empty
-  pub feed-some : (st : State) → ValidState st → (block : List ℤ) (lent : List ℕ) → 1 ≤ length block → 4 ≤ room lent → C .look st .count < lastValue
+  pub feed-some : (st : State) (block : List ℤ) (lent : List ℕ) → 1 ≤ length block → 4 ≤ room lent → C .look st .count < lastValue
       → 1 ≤ C .feed st block lent .told .taken

@@ -90,6 +90,6 @@ demand2-holds = record {
   saved-restored = saved-back;
   restored-saved = saved-again;
   restored-valid = still-valid;
-  feed-most = λ st valid. fed-most st;
-  feed-some = λ st valid. fed-some st;
+  feed-most = fed-most;
+  feed-some = fed-some;
 }

@@ -22,8 +22,8 @@ pub fn demand3()
     ensures { λ _. ⌜ Demand3 loggerCalls ⌝ }
 {}
 
-// The calls that the claim speaks of are those that run: each of the functions below makes one call of `Logger`, and promises all that the claim says of it. A
-// contract of `Logger` that said less would not pass here.
+// The calls that the claim speaks of are those that run: each of the functions below makes one call of `Logger` and promises the equation that the claim reads it
+// by. A contract of `Logger` that said less would not pass here.
 pub fn start(bytes: &[u8]) -> Started
     ensures { λ r. ⌜ (startedTold r ≡ loggerCalls .start (now (bytes .entry))) × YieldedValid r ⌝ }
 {

@@ -10,14 +10,13 @@ use Rattle.numbers.specs.Notation.{_≤ᵇ_, _<ᵇ_, _≡ᵇ_, refuse_unless_th
 use Rattle.reading.specs.declared.Told.{Told}
 use Rattle.reading.specs.Restore.{restoreRefusal}
 use Rattle.reading.specs.Calls.{Outcome, Saved, Restoration}
-use Rattle.reading.specs.Engineer.{over}
 use Rattle.reading.specs.Layout.{imageLength, replyLength}
 use Rattle.samples.specs.Samples.{samplesOf}
 use Rattle.state.specs.declared.State.{State}
 use Rattle.state.specs.Calls.{fedWith}
 use Rattle.image.specs.declared.Acceptance.{Acceptance}
 use Rattle.image.specs.declared.Acceptance.the-variants.{Accepted, Refused}
-use Rattle.image.specs.Image.{imageBytes, stateAt, saveAnswer, savedBytes, acceptanceTold, restoredTo}
+use Rattle.image.specs.Image.{stateAt, saveAnswer, acceptanceTold, restoredTo}
 use Rattle.logger.specs.Logger.{fedTo, savedTo}
 use Rattle.logger.specs.Calls.{loggerCalls}
 use Rattle.logger.specs.CallsLaws.{restore-accepted, restore-refused}
@@ -86,13 +85,13 @@ module _ (image samples next records reply : List ℕ) where
           pub all-done : replyLength ≤ length reply → (after : State) (told : Told) (out replied₁ saved : List ℕ) (number : ℕ) →
               fedTo after told out ≡ loggerCalls .feed end (samplesOf samples) records → replied₁ ≡ replied told reply →
               savedTo number saved ≡ loggerCalls .save after next → advancedTo number saved out replied₁ ≡ advanced image samples next records reply
-          unfolding advanced saveAnswer savedBytes
+          unfolding advanced saveAnswer
           all-done full after told out replied₁ saved number feeds replies saves =
               let zero-is : advanceRefusal image samples next reply ≡ 0 = longs ∙ ap (goes 0 true true true) (le-leb replyLength (length reply) full) in
               let fits : (length next <ᵇ imageLength) ≡ false = le-ltb (length next) imageLength long in
               let f : fedTo after told out ≡ fed = feeds ∙ ap (λ (st : State). fedWith st (samplesOf samples) records) end-is in
               let n : number ≡ 0 = ap (λ (r : Saved). r .number) saves ∙ ap (λ (t : Bool). if t then 7 else 0) fits in
-              let s : saved ≡ over (imageBytes after) next = ap (λ (r : Saved). r .bytes) saves ∙ ap (λ (t : Bool). if t then next else over (imageBytes after) next) fits in
+              let s : saved ≡ loggerCalls .save after next .bytes = ap (λ (r : Saved). r .bytes) saves in
               (λ i. advancedTo (n i) (s i) out (replies i))
               ∙ (λ i. advancedBy 0 (f i) next records reply)
               ∙ sym (ap (λ (m : ℕ). advancedBy m fed next records reply) zero-is)

@@ -13,8 +13,7 @@ use Rattle.reading.specs.Engineer.{over}
 use Rattle.reading.specs.Layout.{imageLength, replyWidths, replyLength}
 use Rattle.samples.specs.Samples.{samplesOf}
 use Rattle.state.specs.declared.State.{State}
-use Rattle.state.specs.Calls.{fedWith}
-use Rattle.image.specs.Image.{imageBytes, stateAt}
+use Rattle.image.specs.Image.{stateAt}
 use Rattle.logger.specs.Calls.{loggerCalls}
 
 -- a call's answer, and the buffers that it may write as it leaves them
@@ -56,9 +55,9 @@ replied told reply = over (row replyWidths (told .taken ∷ told .written ∷ to
 
 -- where it refuses, all buffers are as they were; else those of feed, the reply and save
 abbrev pub advancedBy : ℕ → Outcome State → List ℕ → List ℕ → List ℕ → Advanced
-advancedBy zero f next records reply = advancedTo 0 (over (imageBytes (f .after)) next) (f .bytes) (replied (f .told) reply)
+advancedBy zero f next records reply = advancedTo 0 (loggerCalls .save (f .after) next .bytes) (f .bytes) (replied (f .told) reply)
 advancedBy (suc n) f next records reply = advancedTo (suc n) next records reply
 
 unfoldable pub advanced : List ℕ → List ℕ → List ℕ → List ℕ → List ℕ → Advanced
 advanced image samples next records reply =
-    advancedBy (advanceRefusal image samples next reply) (fedWith (stateAt image) (samplesOf samples) records) next records reply
+    advancedBy (advanceRefusal image samples next reply) (loggerCalls .feed (stateAt image) (samplesOf samples) records) next records reply

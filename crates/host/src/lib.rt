@@ -12,8 +12,8 @@ ghost use lib.ListN.{length};
 ghost use Rattle.settings.specs.Settings.{ValidSettings};
 ghost use Rattle.samples.specs.Samples.{samplesOf};
 ghost use Rattle.state.specs.State.{ValidState};
-ghost use Rattle.state.specs.Calls.{fedWith};
 ghost use Rattle.logger.specs.Logger.{fedTo};
+ghost use Rattle.logger.specs.Calls.{loggerCalls};
 ghost use Rattle.reading.specs.Layout.{replyLength};
 ghost use Rattle.host.specs.Host.{begunTo, begun, replied, advancedTo, advanced};
 
@@ -52,7 +52,7 @@ fn chunk_of(left: usize) -> usize
 // Feeds the samples that bytes are, chunk by chunk, each decoded on the stack, until one is not taken whole.
 fn feed_chunks(logger: Logger, bytes: &[u8], records: &mut [u8]) -> Fed
     requires { ⌜ ValidState (logger .state) ⌝ }
-    ensures { λ r. ⌜ fedTo (r .logger .state) (r .told) (now (records .exit)) ≡ fedWith (logger .state) (samplesOf (now (bytes .entry))) (now (records .entry)) ⌝ }
+    ensures { λ r. ⌜ fedTo (r .logger .state) (r .told) (now (records .exit)) ≡ loggerCalls .feed (logger .state) (samplesOf (now (bytes .entry))) (now (records .entry)) ⌝ }
 {
     let count = bytes.len() / 2;
     let mut samples = [0i16; CHUNK];

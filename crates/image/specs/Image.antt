@@ -1,17 +1,17 @@
 -- What save writes of a state, what restore reads from bytes, and the answers of both.
 use mathlib.Core.List.{List, _∷_, _++_}
 use Prim.Native.Nat.{ℕ, zero, suc}
-use lib.ListN.{length, drop, getD}
+use lib.ListN.{drop, getD}
 use Rattle.octets.specs.Bytes.{row}
-use Rattle.numbers.specs.Notation.{_<ᵇ_, if_then_else_}
+use Rattle.numbers.specs.Notation.{if_then_else_}
 use Rattle.numbers.specs.Answers.{Answered}
 use Rattle.numbers.specs.Answers.Answered.{accepted, refused}
 use Rattle.settings.specs.Settings.{settingsBytes, settingsOf}
-use Rattle.reading.specs.Layout.{gathererWidths, valuesWidths, eventsWidths, imageLength}
+use Rattle.reading.specs.Layout.{gathererWidths, valuesWidths, eventsWidths}
 use Rattle.reading.specs.Image.{table}
 use Rattle.reading.specs.Restore.{settingsPart, gathererIn, valuesIn, eventsIn, restoreRefusal}
 use Rattle.reading.specs.Calls.{Restoration}
-use Rattle.reading.specs.Engineer.{over}
+use Rattle.reading.specs.Engineer.{over, tooShort}
 use Rattle.rms.specs.Gather.{gathererRow}
 use Rattle.state.specs.declared.State.{State}
 use Rattle.state.specs.State.{stateWith}
@@ -37,10 +37,10 @@ stateAt b = stateWith (settingsOf (settingsPart b)) (gathererFrom (gathererIn b)
 
 -- save: 7 for a shorter buffer, which stays; else the image, and the rest as it was
 unfoldable pub saveAnswer : List ℕ → ℕ
-saveAnswer lent = if length lent <ᵇ imageLength then 7 else 0
+saveAnswer lent = if tooShort lent then 7 else 0
 
 unfoldable pub savedBytes : State → List ℕ → List ℕ
-savedBytes st lent = if length lent <ᵇ imageLength then lent else over (imageBytes st) lent
+savedBytes st lent = if tooShort lent then lent else over (imageBytes st) lent
 
 -- restore's answer, as 01 gives it: each case of the code's enum, beside the state that it leaves
 abbrev pub acceptanceTold : Acceptance → Answered (Unit {0})

@@ -11,12 +11,25 @@ use settings::Settings;
 use settings::SettingsRead;
 use state::State;
 ghost use mathlib.Core.Path.{_≡_};
-ghost use Rattle.image.specs.Image.{saveAnswer, savedBytes, restoredTo, refusedBy, restoredBy};
+ghost use Rattle.numbers.specs.Answers.{refusalIn};
+ghost use Rattle.image.specs.Image.{saveAnswer, savedBytes, acceptanceTold, restoredTo, refusedBy, restoredBy};
 
 // Restore's answer: accepted, or 01's number of the refusal.
 pub enum Acceptance {
     Accepted,
     Refused(u32),
+}
+
+impl Acceptance {
+    // 0, or the refusal.
+    pub fn number(self) -> u32
+        ensures { λ r. ⌜ r ≡ refusalIn (acceptanceTold self) ⌝ }
+    {
+        match self {
+            Acceptance::Accepted => 0,
+            Acceptance::Refused(number) => number,
+        }
+    }
 }
 
 // The answer, beside the state that it leaves.
@@ -77,7 +90,7 @@ pub fn restore(old: State, bytes: &[u8]) -> Restored
     };
     let read = bodies::read_window(&bytes[VALUES_AT..EVENTS_AT], settings, gatherer.whole);
     let verdict = read.verdict;
-    let values = read.count;
+    let count = read.count;
     let window = read.window;
     let Verdict::Good = verdict else {
         return refused(old, 11);
@@ -85,7 +98,7 @@ pub fn restore(old: State, bytes: &[u8]) -> Restored
     let DetectorRead::Read(detector) = bodies::read_detector(
         &bytes[EVENTS_AT..IMAGE_LENGTH],
         settings,
-        values,
+        count,
     ) else {
         return refused(old, 11);
     };

@@ -2,7 +2,6 @@
 // (outside/image_vectors.py).
 use bodies::IMAGE_LENGTH;
 use detection::Detector;
-use image::Acceptance;
 use libc::STDIN_FILENO;
 use libc::STDOUT_FILENO;
 use rms::Gatherer;
@@ -34,17 +33,10 @@ fn blank() -> State {
     }
 }
 
-fn number_of(answer: Acceptance) -> u64 {
-    match answer {
-        Acceptance::Accepted => 0,
-        Acceptance::Refused(number) => number as u64,
-    }
-}
-
 fn refusal(bytes: &[u8]) -> u64 {
     let restored = image::restore(blank(), bytes);
     let answer = restored.answer;
-    number_of(answer)
+    answer.number() as u64
 }
 
 // The number of the first `length` bytes, or of all.

@@ -2,7 +2,7 @@
 use mathlib.Core.Path.{_≡_, refl}
 use Prim.Native.Nat.{ℕ, zero, suc, _<_}
 use native.Mathlib.Omega.{arith}
-use Rattle.numbers.specs.Answers.{Answered, answered}
+use Rattle.numbers.specs.Answers.{answered}
 use Rattle.numbers.specs.Answers.Answered.{accepted, refused}
 
 module _ {A : Type 0} where

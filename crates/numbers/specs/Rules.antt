@@ -15,8 +15,8 @@ pub data Rule : Type 0 where
   _<ʳ_ : ℕ → ℕ → Rule
   _≡ʳ_ : ℕ → ℕ → Rule
   -- each number of a list is at most a bound; is 0
-  upTo : ℕ → List ℕ → Rule
-  zeros : List ℕ → Rule
+  allUpTo : ℕ → List ℕ → Rule
+  allZero : List ℕ → Rule
   _and_ : Rule → Rule → Rule
   _implies_ : Rule → Rule → Rule
   _exactly-when_ : Rule → Rule → Rule
@@ -25,8 +25,8 @@ abbrev pub passes : Rule → Bool
 passes (a ≤ʳ b) = a ≤ᵇ b
 passes (a <ʳ b) = a <ᵇ b
 passes (a ≡ʳ b) = a ≡ᵇ b
-passes (upTo b l) = all (_≤ᵇ b) l
-passes (zeros l) = all (_≡ᵇ 0) l
+passes (allUpTo b l) = all (_≤ᵇ b) l
+passes (allZero l) = all (_≡ᵇ 0) l
 passes (p and q) = passes p && passes q
 passes (p implies q) = not (passes p) || passes q
 passes (p exactly-when q) = iff (passes p) (passes q)
@@ -35,8 +35,8 @@ abbrev pub Holds : Rule → Type 0
 Holds (a ≤ʳ b) = a ≤ b
 Holds (a <ʳ b) = a < b
 Holds (a ≡ʳ b) = a ≡ b
-Holds (upTo b l) = (i : ℕ) → getD l i 0 ≤ b
-Holds (zeros l) = (i : ℕ) → getD l i 0 ≡ 0
+Holds (allUpTo b l) = (i : ℕ) → getD l i 0 ≤ b
+Holds (allZero l) = (i : ℕ) → getD l i 0 ≡ 0
 Holds (p and q) = Holds p × Holds q
 Holds (p implies q) = Holds p → Holds q
 Holds (p exactly-when q) = (Holds p → Holds q) × (Holds q → Holds p)

@@ -1,6 +1,6 @@
 -- A rule's test passes exactly where the rule holds.
 use mathlib.Core.Path.{_≡_, refl, sym, _∙_}
-use mathlib.Core.Bool.{Bool, true, false, not, _&&_, _||_, true≢false, Bool·beq as iff}
+use mathlib.Core.Bool.{Bool, true, false, not, true≢false, Bool·beq as iff}
 use mathlib.Core.List.{List, [], _∷_}
 use Prim.Native.Nat.{ℕ, zero, suc, _≤_}
 use native.Mathlib.Omega.{arith}
@@ -9,7 +9,7 @@ use borrow.Author.Tests.{eqb-true, eq-eqb, leb-true, le-leb, ltb-true, lt-ltb, n
 use Rattle.numbers.specs.Notation.{_≤ᵇ_, _≡ᵇ_, all}
 use Rattle.numbers.specs.NotationLaws.{and-true, and-left, and-right, implied, imply}
 use Rattle.numbers.specs.Rules.{Rule, passes, Holds}
-use Rattle.numbers.specs.Rules.Rule.{_≤ʳ_, _<ʳ_, _≡ʳ_, upTo, zeros, _and_, _implies_, _exactly-when_}
+use Rattle.numbers.specs.Rules.Rule.{_≤ʳ_, _<ʳ_, _≡ʳ_, allUpTo, allZero, _and_, _implies_, _exactly-when_}
 
 -- every number of a list
 all-at : (b : ℕ) (l : List ℕ) → all (_≤ᵇ b) l ≡ true → (i : ℕ) → getD l i 0 ≤ b
@@ -56,8 +56,8 @@ agree : (r : Rule) → Agree r
 agree (a ≤ʳ b) = record { down = leb-true a b; up = le-leb a b }
 agree (a <ʳ b) = record { down = ltb-true a b; up = lt-ltb a b }
 agree (a ≡ʳ b) = record { down = eqb-true a b; up = eq-eqb a b }
-agree (upTo b l) = record { down = all-at b l; up = at-all b l }
-agree (zeros l) = record { down = zero-at l; up = at-zero l }
+agree (allUpTo b l) = record { down = all-at b l; up = at-all b l }
+agree (allZero l) = record { down = zero-at l; up = at-zero l }
 agree (p and q) = record {
   down = λ e. (agree p .down (and-left (passes p) (passes q) e), agree q .down (and-right (passes p) (passes q) e));
   up = λ h. and-true (agree p .up (h .0)) (agree q .up (h .1));

@@ -1,4 +1,4 @@
-// Plain numbers: a difference that stops at 0. In specs/: the tests and choices that the readings are written with.
+// Plain numbers: a difference that stops at 0. In specs/: what the readings are written with: tests and choices, answers, rules.
 ghost use mathlib.Core.Path.{_≡_};
 ghost use Prim.Native.Nat.{_-_};
 

@@ -1,9 +1,9 @@
 -- The laws of rows, over the widths: numbers to bytes and back, both ways; and how a row goes on.
 use mathlib.Core.Path.{_≡_, refl, sym, _∙_, ap, ap₂}
 use mathlib.Core.List.{List, [], _∷_, _++_}
-use Prim.Native.Nat.{ℕ, zero, suc, _+_, _*_, _^_, _≤_, _<_}
+use Prim.Native.Nat.{ℕ, suc, _^_, _<_, _+_}
 use native.Mathlib.Omega.{arith}
-use lib.ListN.{length, take, drop, getD, replicate, length-append, length-take, length-drop, take-append-drop}
+use lib.ListN.{length, take, drop, getD, length-append, length-take, length-drop, take-append-drop}
 use lib.Seq.{take-at, drop-at, length-take-le}
 use Rattle.octets.specs.Bytes.{Bytes, bytesOf, numberOf, row, numbersIn, total, fours}
 use Rattle.octets.specs.BytesLaws.{bytes-take, bytes-drop, length-bytesOf, numberOf-bytesOf, bytesOf-numberOf, numberOf-lt}
@@ -49,18 +49,7 @@ pub numbersIn-fit : (ws b : List ℕ) → Bytes b → Fit ws (numbersIn ws b)
 numbersIn-fit [] b are = tt
 numbersIn-fit (w ∷ ws) b are = (numberOf-lt w (take w b) (bytes-take w b are) (simp length-take (omega arith)), numbersIn-fit ws (drop w b) (bytes-drop w b are))
 
--- each number of a row that fits is below 256 to the power of its width
-pub fit-at : (ws ns : List ℕ) → Fit ws ns → (i : ℕ) → i < length ws → getD ns i 0 < 256 ^ getD ws i 0
-fit-at [] ns h i l = absurd (omega arith)
-fit-at (w ∷ ws) [] h i l = absurd h
-fit-at (w ∷ ws) (n ∷ ns) h zero l = h .0
-fit-at (w ∷ ws) (n ∷ ns) h (suc i) l = fit-at ws ns (h .1) i (omega arith)
-
 -- numbers of 4 bytes each
 pub fits-fours : (ns : List ℕ) → ((i : ℕ) → getD ns i 0 < 256 ^ 4) → Fit (fours ns) ns
 fits-fours [] h = tt
 fits-fours (n ∷ ns) h = (h 0, fits-fours ns (λ i. h (suc i)))
-
-pub total-replicate : (c w : ℕ) → total (replicate c w) ≡ c * w
-total-replicate zero w = omega arith
-total-replicate (suc c) w = omega (arith, total-replicate c w)

@@ -1,4 +1,4 @@
--- 01, "Bench readings", and the example of "The event program".
+-- 01, "Bench readings", the example of "The event program", and more readings of the same kind: lengths, a whole image, and what restore refuses and accepts.
 use mathlib.Core.Path.{_≡_}
 use mathlib.Core.Bool.{true, false}
 use mathlib.Core.List.{List, [], _∷_, _++_, map}
@@ -75,7 +75,7 @@ changingImage =
     ++ (3 ∷ 0 ∷ 0 ∷ 0 ∷ 150 ∷ 0 ∷ 0 ∷ 0 ∷ 0 ∷ 113 ∷ 2 ∷ 0 ∷ 0 ∷ 0 ∷ 0 ∷ 0 ∷ 151 ∷ 0 ∷ 0 ∷ 0
     ∷ 151 ∷ 0 ∷ 0 ∷ 0 ∷ 0 ∷ 5 ∷ 0 ∷ 0 ∷ replicate 16 0))))
 
--- that image with a number of w bytes at an offset; each is one rule away from it
+-- that image with a number of w bytes at an offset
 abbrev pub changed : ℕ → ℕ → ℕ → List ℕ
 changed offset w x = sets changingImage offset (bytesOf w x)
 
@@ -89,11 +89,11 @@ settingsOut = changed 32 4 7 ∷ changed 36 4 51 ∷ changed 40 4 15 ∷ changed
 abbrev pub settingsIn : List (List ℕ)
 settingsIn = changed 32 4 9 ∷ changed 36 4 60 ∷ changed 40 4 16 ∷ changed 44 4 600 ∷ changed 48 4 299 ∷ changed 52 4 1 ∷ changed 60 4 20000 ∷ changed 52 4 8800 ∷ changed 60 4 9401 ∷ []
 
--- the bodies: count, sum, last sum, mark, no half with V; a value, an unused place; phase 4, phase 0 with V ≥ N, a change outside phase 3; k at N, k above V,
+-- the bodies: count, sum, last sum, mark, mark 0 with a last sum, mark 0 with V; a value, an unused place; phase 4, phase 0 with V ≥ N, a change outside phase 3; k at N, k above V,
 -- A(k − 1), a difference with V < k + N, a stand before k, one after V; a start above V, a magnitude, a magnitude of none
 abbrev pub bodiesOut : List (List ℕ)
 bodiesOut =
-    changed 68 4 8 ∷ changed 72 8 (3 * 2 ^ 30 + 1) ∷ changed 80 8 (8 * 2 ^ 30 + 1) ∷ changed 88 4 2 ∷ changed 88 4 0
+    changed 68 4 8 ∷ changed 72 8 (3 * 2 ^ 30 + 1) ∷ changed 80 8 (8 * 2 ^ 30 + 1) ∷ changed 88 4 2 ∷ changed 88 4 0 ∷ sets (changed 80 8 0) 88 (bytesOf 4 0)
     ∷ changed 96 4 524289 ∷ changed 496 4 1
     ∷ changed 576 4 4 ∷ changed 576 4 0 ∷ changed 576 4 2 ∷ changed 580 4 100 ∷ changed 580 4 152 ∷ changed 584 4 52428801 ∷ changed 588 4 1 ∷ changed 592 4 149 ∷ changed 592 4 152
     ∷ changed 596 4 152 ∷ changed 600 4 524289 ∷ changed 608 4 1 ∷ []
@@ -155,5 +155,5 @@ pub record BenchReadings : Type 0 where
   pub table-refused : refusals (changed 0 4 2 ∷ changed 4 2 33 ∷ changed 30 2 45 ∷ []) ≡ 9 ∷ 9 ∷ 9 ∷ []
   pub settings-refused : refusals settingsOut ≡ replicate 9 10
   pub settings-accepted : refusals settingsIn ≡ replicate 9 0
-  pub bodies-refused : refusals bodiesOut ≡ replicate 19 11
+  pub bodies-refused : refusals bodiesOut ≡ replicate 20 11
   pub bodies-accepted : refusals bodiesIn ≡ replicate 15 0

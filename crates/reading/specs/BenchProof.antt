@@ -67,7 +67,7 @@ settings-are-accepted : refusals settingsIn ≡ replicate 9 0
 unfolding restoreRefusal startRefusal settingsRefusal samplesGood frequencyGood declaredGood limitGood levelsGood orderGood
 settings-are-accepted = refl
 
-bodies-are-refused : refusals bodiesOut ≡ replicate 19 11
+bodies-are-refused : refusals bodiesOut ≡ replicate 20 11
 unfolding restoreRefusal startRefusal settingsRefusal samplesGood frequencyGood declaredGood limitGood levelsGood orderGood
 bodies-are-refused = refl
 

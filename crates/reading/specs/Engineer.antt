@@ -1,5 +1,6 @@
 -- 01, "The engineer" of demand 3: what is kept of a list of calls, and each call's answer, read from the recording and the settings only.
 use mathlib.Core.Logic.{_≢_}
+use mathlib.Core.Bool.{Bool}
 use mathlib.Core.List.{List, [], _∷_, _++_}
 use Prim.Native.Nat.{ℕ, suc, _/_, _<_}
 use lib.ListN.{length, take, drop, getD}
@@ -61,6 +62,10 @@ pub record Desk : Type 0 where
 abbrev pub emptyDesk : Desk
 emptyDesk = record { recording = []; copies = [] }
 
+-- a buffer that is shorter than an image: save's refusal 7
+abbrev pub tooShort : List ℕ → Bool
+tooShort lent = length lent <ᵇ imageLength
+
 -- room is the whole number of records that fit the lent bytes
 abbrev pub room : List ℕ → ℕ
 room lent = length lent / recordLength
@@ -72,7 +77,7 @@ answer s d (feed block lent) =
     let written = completed s (d .recording) block n in
     fed (record { taken = n; written = length written; why = why s (d .recording) block n }) (over (recordBytes written) lent)
 answer s d look = looked (readings s (values s (d .recording)))
-answer s d (save lent) = if length lent <ᵇ imageLength then saved 7 lent else saved 0 (over (imageOf s (d .recording)) lent)
+answer s d (save lent) = if tooShort lent then saved 7 lent else saved 0 (over (imageOf s (d .recording)) lent)
 answer s d (restoreSave j) = restored 0
 answer s d (restoreRefused bytes) = restored (restoreRefusal bytes)
 
@@ -80,7 +85,7 @@ answer s d (restoreRefused bytes) = restored (restoreRefusal bytes)
 abbrev pub deskWith : Settings → Desk → Call → Desk
 deskWith s d (feed block lent) = record { recording = d .recording ++ take (taken s (d .recording) block (room lent)) block; copies = d .copies }
 deskWith s d look = d
-deskWith s d (save lent) = if length lent <ᵇ imageLength then d else record { recording = d .recording; copies = d .copies ++ (d .recording ∷ []) }
+deskWith s d (save lent) = if tooShort lent then d else record { recording = d .recording; copies = d .copies ++ (d .recording ∷ []) }
 deskWith s d (restoreSave j) = record { recording = getD (d .copies) j []; copies = d .copies }
 deskWith s d (restoreRefused bytes) = d
 
@@ -100,6 +105,6 @@ abbrev pub WellFormed : ℕ → List Call → Type 0
 WellFormed n [] = Unit {0}
 WellFormed n (feed block lent ∷ cs) = Samples block × Bytes lent × WellFormed n cs
 WellFormed n (look ∷ cs) = WellFormed n cs
-WellFormed n (save lent ∷ cs) = Bytes lent × WellFormed (if length lent <ᵇ imageLength then n else suc n) cs
+WellFormed n (save lent ∷ cs) = Bytes lent × WellFormed (if tooShort lent then n else suc n) cs
 WellFormed n (restoreSave j ∷ cs) = (j < n) × WellFormed n cs
 WellFormed n (restoreRefused bytes ∷ cs) = Bytes bytes × (restoreRefusal bytes ≢ 0) × WellFormed n cs

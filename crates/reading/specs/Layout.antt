@@ -1,4 +1,4 @@
--- 01, "The record", "The image" and the reply of advance: how wide each number is. Lengths and places follow as sums; 01's own figures are `layout` of Bench.
+-- 01, "The record", "The image" and the reply of advance: how wide each number is. Lengths and places follow as sums; 01's own figures are `lengths` and `sections` of Bench.
 use mathlib.Core.List.{List, [], _∷_}
 use Prim.Native.Nat.{ℕ, _+_, _*_}
 use lib.ListN.{replicate}

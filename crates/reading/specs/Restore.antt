@@ -7,8 +7,7 @@ use lib.ListN.{length, take, drop, getD}
 use Rattle.octets.specs.Bytes.{numbersIn}
 use Rattle.numbers.specs.Notation.{_≡ᵇ_, refuse_unless_then_}
 use Rattle.numbers.specs.Rules.{Rule, passes}
-use Rattle.numbers.specs.Rules.Rule.{_≤ʳ_, _<ʳ_, _≡ʳ_, upTo, zeros, _and_, _implies_, _exactly-when_}
-use Rattle.settings.specs.declared.Settings.{Settings}
+use Rattle.numbers.specs.Rules.Rule.{_≤ʳ_, _<ʳ_, _≡ʳ_, allUpTo, allZero, _and_, _implies_, _exactly-when_}
 use Rattle.settings.specs.Settings.{windowLength, settingsLength, settingsOf, startRefusal}
 use Rattle.reading.specs.Layout.{gathererWidths, gathererLength, valuesWidths, valuesLength, eventsWidths, eventsLength, tableLength, imageLength}
 use Rattle.reading.specs.Layout.{settingsOffset, gathererOffset, valuesOffset, eventsOffset}
@@ -39,7 +38,7 @@ gathererRule m ns =
     and getD ns 1 0 ≤ʳ count * 2 ^ 30
     and last ≤ʳ m * 2 ^ 30
     and mark ≤ʳ 1
-    and mark ≡ʳ 0 implies last ≡ʳ 0
+    and (mark ≡ʳ 0 implies last ≡ʳ 0)
 
 -- mark 0 means V is 0
 abbrev pub wholeRule : ℕ → ℕ → Rule
@@ -47,11 +46,15 @@ wholeRule mark v = mark ≡ʳ 0 implies v ≡ʳ 0
 
 -- values ≤ 524,288, and 0 in the unused places, those after the first min(V, N)
 abbrev pub placesRule : ℕ → ℕ → List ℕ → Rule
-placesRule n v values = upTo valueMost values and zeros (drop (min v n) values)
+placesRule n v values = allUpTo valueMost values and allZero (drop (min v n) values)
 
 -- body 3, V and the places, behind a body 2 with that mark
 abbrev pub valuesRule : ℕ → ℕ → List ℕ → Rule
 valuesRule n mark ns = wholeRule mark (getD ns 0 0) and placesRule n (getD ns 0 0) (drop 1 ns)
+
+-- the greatest difference is 0 when V < k + N
+abbrev pub earlyRule : ℕ → ℕ → ℕ → ℕ → Rule
+earlyRule n v k difference = v <ʳ k + n implies difference ≡ʳ 0
 
 -- a change, k, A(k − 1), greatest difference and first stand: N < k ≤ V; the two in the middle at most N × 524,288; the difference 0 when V < k + N; the first
 -- stand 0, or else from k to V
@@ -64,8 +67,8 @@ changeRule n v ns =
     and k ≤ʳ v
     and getD ns 1 0 ≤ʳ n * valueMost
     and difference ≤ʳ n * valueMost
-    and v <ʳ k + n implies difference ≡ʳ 0
-    and 0 <ʳ stand implies (k ≤ʳ stand and stand ≤ʳ v)
+    and earlyRule n v k difference
+    and (0 <ʳ stand implies (k ≤ʳ stand and stand ≤ʳ v))
 
 -- the phase and a change's numbers: phase 0 to 3, and 0 exactly when V < N; a change's numbers in phase 3, outside it zeros
 abbrev pub phaseRule : ℕ → ℕ → List ℕ → Rule
@@ -73,13 +76,13 @@ phaseRule n v ns =
     let phase = getD ns 0 0 in
     let change = take 4 (drop 1 ns) in
     phase ≤ʳ 3
-    and phase ≡ʳ 0 exactly-when v <ʳ n
-    and phase ≡ʳ 3 implies changeRule n v change
-    and phase <ʳ 3 implies zeros change
+    and (phase ≡ʳ 0 exactly-when v <ʳ n)
+    and (phase ≡ʳ 3 implies changeRule n v change)
+    and (phase <ʳ 3 implies allZero change)
 
 -- an event: its start 0 to V, its magnitude ≤ 524,288, and 0 where the start is 0
 abbrev pub standingRule : ℕ → ℕ → ℕ → Rule
-standingRule v start so-far = start ≤ʳ v and so-far ≤ʳ valueMost and start ≡ʳ 0 implies so-far ≡ʳ 0
+standingRule v start so-far = start ≤ʳ v and so-far ≤ʳ valueMost and (start ≡ʳ 0 implies so-far ≡ʳ 0)
 
 -- body 4: the phase; the dip, the swell and the interruption
 abbrev pub eventsRule : ℕ → ℕ → List ℕ → Rule

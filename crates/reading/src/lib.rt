@@ -45,7 +45,8 @@ pub struct Readings {
     pub interruption: bool,
 }
 
-// 01's bench readings, marked [t] there, as one promise about the readings: whole recordings in, values, records and counts out.
+// 01's bench readings, marked [t] there, and more of the same kind, as one promise about the readings: whole recordings in, values, records, counts, an image and
+// refusals out.
 pub fn bench_readings()
     ensures { λ _. ⌜ BenchReadings ⌝ }
 {}

@@ -40,6 +40,13 @@ pub record LastTurnedFalse (s : Settings) (hist : List ℕ) (k : ℕ) : Type 0 w
   pub before : isSteady s (upTo (k - 1) hist) ≡ true
   pub since : (i : ℕ) → k ≤ i → i ≤ length hist → isSteady s (upTo i hist) ≡ false
 
+-- what the phase says: 0 fewer than N values, 1 never yet steady, 2 steady, 3 in a change since k, the value at which the signal last turned false
+abbrev pub PhaseSays : Settings → List ℕ → Signal → Type 0
+PhaseSays s hist filling = length hist < windowLength s
+PhaseSays s hist unsettled = (windowLength s ≤ length hist) × NeverTrue s hist
+PhaseSays s hist steady = isSteady s hist ≡ true
+PhaseSays s hist (changing k) = LastTurnedFalse s hist k
+
 pub record Sentences : Type 0 where
   -- the root of n is the greatest number whose square is at most n
   pub root-greatest : (n : ℕ) → Greatest (λ (r : ℕ). r * r ≤ n) (root n)
@@ -64,6 +71,8 @@ pub record Sentences : Type 0 where
       → isSteady s (r ∷ older) ≡ calm s (s .limit - s .reduction) (r ∷ older)
   -- there is no other case: at i − 1 it was true, or it has never been true, or it last turned false at some k
   pub signal-cases : (s : Settings) (older : List ℕ) → (isSteady s older ≡ true) ⊎ NeverTrue s older ⊎ ((k : ℕ) × LastTurnedFalse s older k)
+  -- and the phase, with the k that records and images are made of, says which
+  pub signal-says : (s : Settings) (hist : List ℕ) → PhaseSays s hist (signal s hist)
   -- the samples that feed takes are allowed: their records fit and V stays within its end; and no greater number of the block's is
   pub taken-fits : (s : Settings) → 0 < s .samples → (rec block : List ℤ) (room : ℕ) → valueCount s rec ≤ lastValue
       → (taken s rec block room ≤ length block) × (allowed s rec block room (taken s rec block room) ≡ true)

@@ -5,7 +5,7 @@ use Rattle.reading_laws.specs.RootLaws.{root-is, root-most}
 use Rattle.reading_laws.specs.RecordingsLaws.{value-is, value-le, value-grow}
 use Rattle.reading_laws.specs.CompletedLaws.{events-completed}
 use Rattle.reading_laws.specs.TakenLaws.{taken-le, taken-allowed, taken-greatest}
-use Rattle.reading_laws.specs.SignalLaws.{signal-was, false-before-N, calm-after-true, calm-if-never, false-in-change, calm-in-change, calm-at-N}
+use Rattle.reading_laws.specs.SignalLaws.{signal-was, false-before-N, calm-after-true, calm-if-never, false-in-change, calm-in-change, calm-at-N, phase-says}
 
 pub sentences-hold : Sentences
 sentences-hold = record {
@@ -20,6 +20,7 @@ sentences-hold = record {
   signal-held = false-in-change;
   signal-returns = calm-in-change;
   signal-cases = signal-was;
+  signal-says = phase-says;
   taken-fits = λ s h rec block room v. (taken-le s rec block room h, taken-allowed s rec block room h v);
   taken-most = λ s h rec block room. taken-greatest s rec block room h;
   records-added = λ s h. events-completed s h;

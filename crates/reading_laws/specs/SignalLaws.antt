@@ -1,15 +1,15 @@
 -- 01's sentence on the steady signal: each phase of the reading's signal says what its truth value has been, and so which case of the sentence holds.
-use mathlib.Core.Path.{_≡_, refl, ap}
+use mathlib.Core.Path.{_≡_, refl, sym, _∙_, ap}
 use mathlib.Core.Logic.{_⊎_, inl, inr}
 use mathlib.Core.Bool.{Bool, true, false}
 use mathlib.Core.List.{List, [], _∷_}
 use Prim.Native.Nat.{ℕ, suc, _+_, _-_, _≤_, _<_}
 use native.Mathlib.Omega.{arith}
 use native.Mathlib.Nat.{le-antisymm}
-use native.Mathlib.Decide.{decLe}
+use native.Mathlib.Decide.{decLe, decLt}
 use lib.ListN.{length}
 use lib.Seq.{drop-nil}
-use borrow.Author.Tests.{lt-ltb, le-ltb, le-leb, lt-leb}
+use borrow.Author.Tests.{ltb-true, lt-ltb, le-ltb, le-leb, lt-leb}
 use Rattle.settings.specs.declared.Settings.{Settings}
 use Rattle.settings.specs.Settings.{windowLength}
 use Rattle.settings.specs.SettingsLaws.{windowLength-some}
@@ -17,7 +17,8 @@ use Rattle.numbers.specs.Notation.{_≤ᵇ_, _<ᵇ_, if_then_else_}
 use Rattle.reading.specs.Values.{upTo}
 use Rattle.reading.specs.Changes.{calm, Signal, next, signal}
 use Rattle.reading.specs.Changes.Signal.{filling, unsettled, steady, changing}
-use Rattle.reading_laws.specs.Sentences.{truth, isSteady, NeverTrue, LastTurnedFalse}
+use Rattle.reading.specs.Image.{phaseNumber}
+use Rattle.reading_laws.specs.Sentences.{truth, isSteady, NeverTrue, LastTurnedFalse, PhaseSays}
 
 -- a history after its newest value, and after an earlier one
 upTo-newest : (hist : List ℕ) → upTo (length hist) hist ≡ hist
@@ -174,3 +175,43 @@ module _ (s : Settings) where
   pub calm-at-N : (hist : List ℕ) → length hist ≡ windowLength s → isSteady s hist ≡ calm s (s .limit) hist
   calm-at-N [] h = absurd (omega (arith, windowLength-some s))
   calm-at-N (r ∷ older) h = calm-if-never r older (omega arith) (rw (few-values older (omega arith)) at (past older))
+
+  -- what the phase says
+  not-filling : (c : Bool) (p q : Signal) → (p ≡ filling → ⊥) → (q ≡ filling → ⊥) → (if c then p else q) ≡ filling → ⊥
+  not-filling true p q f g e = f e
+  not-filling false p q f g e = g e
+
+  other : (p : Signal) → 0 < phaseNumber p → p ≡ filling → ⊥
+  other p some e = omega (arith, some, ap phaseNumber e)
+
+  filling-few : (hist : List ℕ) → signal s hist ≡ filling → length hist < windowLength s
+  filling-few [] e = windowLength-some s
+  filling-few (r ∷ older) e = go (signal s older) e
+    where
+      hist : List ℕ
+      hist = r ∷ older
+
+      few : (b c : Bool) → (length hist <ᵇ windowLength s) ≡ b → (if b then filling else if c then steady else unsettled) ≡ filling → length hist < windowLength s
+      few true c t f = ltb-true (length hist) (windowLength s) t
+      few false c t f = absurd (not-filling c steady unsettled (other steady (omega arith)) (other unsettled (omega arith)) f)
+
+      go : (p : Signal) → next s hist p ≡ filling → length hist < windowLength s
+      go filling f = few (length hist <ᵇ windowLength s) (calm s (s .limit) hist) refl f
+      go unsettled f = absurd (not-filling (calm s (s .limit) hist) steady unsettled (other steady (omega arith)) (other unsettled (omega arith)) f)
+      go steady f = absurd (not-filling (calm s (s .limit) hist) steady (changing (length hist)) (other steady (omega arith)) (other (changing (length hist)) (omega arith)) f)
+      go (changing k) f =
+          absurd (not-filling (length hist ≤ᵇ k + windowLength s) (changing k) _ (other (changing k) (omega arith))
+          (not-filling (calm s (s .limit - s .reduction) hist) steady (changing k) (other steady (omega arith)) (other (changing k) (omega arith))) f)
+
+  pub phase-says : (hist : List ℕ) → PhaseSays s hist (signal s hist)
+  phase-says hist = go (signal s hist) refl (past hist)
+    where
+      full : signal s hist ≡ unsettled → Dec (length hist < windowLength s) → windowLength s ≤ length hist
+      full e (yes few) = absurd (other unsettled (omega arith) (sym e ∙ few-values hist few))
+      full e (no f) = omega (arith, f)
+
+      go : (p : Signal) → signal s hist ≡ p → Past hist p → PhaseSays s hist p
+      go filling e was = filling-few hist e
+      go unsettled e was = (full e (decLt (length hist) (windowLength s)), was)
+      go steady e was = was
+      go (changing k) e was = was

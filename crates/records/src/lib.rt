@@ -94,7 +94,7 @@ impl Due {
         count_of(dip) + count_of(swell) + count_of(interruption) + count_of(change)
     }
 
-    // Writes their records, by kind, at the front of a buffer. At most values there are none.
+    // Writes their records, by kind, at the front of a buffer. With most values there are none.
     pub fn put(self, buffer: &mut [u8])
         requires { ⌜ recordLength * length (eventsOf self) ≤ length (now buffer) ⌝ }
         ensures { λ _. ⌜ now (buffer .exit) ≡ over (recordBytes (eventsOf self)) (now (buffer .entry)) ⌝ }

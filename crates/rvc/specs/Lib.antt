@@ -1,5 +1,5 @@
 pub mod Phase
-pub mod PhaseRules
+pub mod PhaseRuleLaws
 pub mod PhaseLaws
 pub mod ChangeFollows
 pub mod PhaseFollows

@@ -21,7 +21,7 @@ use Rattle.rvc.specs.declared.Joining.{Joining}
 use Rattle.rvc.specs.declared.Phase.{Phase}
 use Rattle.rvc.specs.declared.Phase.the-variants.{Filling, Unsettled, Steady, Changing}
 use Rattle.rvc.specs.Phase.{limitIn, limitOf, steadyBy, joiningOf, steadyAfter, Joins}
-use Rattle.rvc.specs.PhaseRules.{Allowed}
+use Rattle.rvc.specs.PhaseRuleLaws.{Allowed}
 
 -- the limit in force, scaled
 limitOf-is : (s : Settings) (p : Phase) → limitOf (scaledOf s) p ≡ limitIn s p * windowLength s * s .declared / 10000

@@ -18,7 +18,7 @@ use Rattle.rvc.specs.declared.Phase.{Phase}
 use Rattle.rvc.specs.declared.Phase.the-variants.{Filling, Unsettled, Steady, Changing}
 use Rattle.rvc.specs.declared.Joining.{Joining}
 use Rattle.rvc.specs.Phase.{changeFrom, grown, joiningOf, steadyAfter, movedAfter, ValidChange, ValidPhase}
-use Rattle.rvc.specs.PhaseRules.{Allowed, allowed-valid, valid-allowed}
+use Rattle.rvc.specs.PhaseRuleLaws.{Allowed, allowed-valid, valid-allowed}
 
 module _ (n v : ℕ) (w : List ℕ) (r : ℕ) (stands : Bool) (window : ValidWindow n v w) where
   abbrev j : Joining

@@ -24,7 +24,6 @@ use Rattle.state.specs.Calls.{fedWith}
 -- what feed tells of a block and a lent buffer
 pub record ToldWithin (block : List ℤ) (lent : List ℕ) (t : Told) : Type 0 where
   pub most : t .taken ≤ length block
-  pub whole : t .why ≡ 0 → t .taken ≡ length block
   pub fits : recordLength * t .written ≤ length lent
   pub some : 4 ≤ room lent → t .why ≡ 1 → 1 ≤ t .taken
 
@@ -69,4 +68,4 @@ pub fedWith-within : (st : State) (block : List ℤ) (lent : List ℕ) → ToldW
 unfolding fedWith
 fedWith-within st block lent =
     let b = fedBy-bounded machine block st (room lent) in
-    record { most = b .most; whole = b .whole; fits = omega (arith, b .fits); some = stops-later block st (room lent) }
+    record { most = b .most; fits = omega (arith, b .fits); some = stops-later block st (room lent) }

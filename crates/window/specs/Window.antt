@@ -1,10 +1,11 @@
 -- The window's step, and what a history leaves in it. The window has 120 places, of which the first N at most are used, oldest first.
 use mathlib.Core.Path.{_≡_}
 use mathlib.Core.List.{List, _∷_, _++_, reverse}
-use Prim.Native.Nat.{ℕ, _-_, _≤_}
+use Prim.Native.Nat.{ℕ, _-_}
 use lib.ListN.{length, take, drop, set, replicate, getD}
 use Rattle.numbers.specs.Notation.{_<ᵇ_, if_then_else_}
 use Rattle.numbers.specs.Rules.{Holds}
+use Rattle.numbers.specs.Rules.Rule.{allUpTo}
 use Rattle.reading.specs.Layout.{places}
 use Rattle.reading.specs.Restore.{valueMost, placesRule}
 
@@ -25,7 +26,7 @@ windowOf n hist = let kept = reverse (take n hist) in kept ++ replicate (places 
 
 -- no value is above 524,288
 abbrev pub Small : List ℕ → Type 0
-Small l = (i : ℕ) → getD l i 0 ≤ valueMost
+Small l = Holds (allUpTo valueMost l)
 
 -- what refusal 11 allows of the places of a window of n, after v values
 pub record ValidWindow (n v : ℕ) (w : List ℕ) : Type 0 where

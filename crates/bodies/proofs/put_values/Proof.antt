@@ -1,7 +1,7 @@
 -- V and the places stand in the two parts, one behind the other.
 use mathlib.Core.Path.{_≡_, refl, _∙_, ap}
 use mathlib.Core.List.{List, _∷_, _++_}
-use Prim.Native.Nat.{ℕ}
+use Prim.Native.Nat.{ℕ, _-_}
 use native.Mathlib.Omega.{arith}
 use lib.ListN.{length, drop, replicate, length-drop}
 use borrow.Author.Needs.{needs}
@@ -13,10 +13,10 @@ use Rattle.bodies.proofs.put_values.Statement.{statement}
 use Rattle.bodies.proofs.put_values.Tie as tie
 
 values-put : (p : List ℕ) (v : ℕ) (w y₁ y₂ : List ℕ) → length p ≡ valuesLength → length w ≡ 120 → y₁ ≡ bytesOf 4 v → y₂ ≡ row (fours w) w →
-    putMid 4 480 (putMid 0 4 p y₁) y₂ ≡ row valuesWidths (v ∷ w)
+    putMid 4 (valuesLength - 4) (putMid 0 4 p y₁) y₂ ≡ row valuesWidths (v ∷ w)
 values-put p v w y₁ y₂ l size e₁ e₂ =
-    (λ i. putMid 4 480 (putMid 0 4 p (e₁ i)) (e₂ i))
-    ∙ (put-last 4 480 (putMid 0 4 p (bytesOf 4 v)) (bytesOf 4 v) (drop 4 p) (row (fours w) w) refl refl (simp length-drop (omega arith))
+    (λ i. putMid 4 (valuesLength - 4) (putMid 0 4 p (e₁ i)) (e₂ i))
+    ∙ (put-last 4 (valuesLength - 4) (putMid 0 4 p (bytesOf 4 v)) (bytesOf 4 v) (drop 4 p) (row (fours w) w) refl refl (simp length-drop (omega arith))
     ∙ ap (λ (n : ℕ). bytesOf 4 v ++ row (replicate n 4) w) size)
 
 sub-put-number : tie.Need-sub-put-number

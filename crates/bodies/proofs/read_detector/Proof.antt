@@ -54,8 +54,8 @@ returns : tie.Need-returns
 returns c =
     let a = c .before .before .before .before .before .before .before .before .before .args in
     let ns = c .before .before .before .before .before .get-row .last .1 .1 .0 in
-    ap (λ (b : Bool). answer-by b (a .values) ns) (sym (not-true (c .before .events-good .result) (c .if1 .taken)))
-    ∙ answer-is (a .settings) (a .values) (a .part .now) ns _ (c .before .before .before .before .before .get-row .ensures) (c .before .before .window-length .ensures .0) (c .before .events-good .ensures)
+    ap (λ (b : Bool). answer-by b (a .count) ns) (sym (not-true (c .before .events-good .result) (c .if1 .taken)))
+    ∙ answer-is (a .settings) (a .count) (a .part .now) ns _ (c .before .before .before .before .before .get-row .ensures) (c .before .before .window-length .ensures .0) (c .before .events-good .ensures)
 
 array-read-phase-of : tie.Need-array-read-phase-of
 array-read-phase-of c = search needs
@@ -97,9 +97,9 @@ returns-2 : tie.Need-returns-2
 returns-2 c =
     let a = c .before .before .before .before .before .before .before .before .before .before .args in
     let ns = c .before .before .before .before .before .before .get-row .last .1 .1 .0 in
-    ap (λ (q : Phase). accepted (with-phase (a .values) ns q)) (c .phase-of .ensures)
-    ∙ (ap (λ (b : Bool). answer-by b (a .values) ns) (sym (not-false (c .before .before .events-good .result) (c .before .if1 .left)))
-    ∙ answer-is (a .settings) (a .values) (a .part .now) ns _ (c .before .before .before .before .before .before .get-row .ensures) (c .before .before .before .window-length .ensures .0) (c .before .before .events-good .ensures))
+    ap (λ (q : Phase). accepted (with-phase (a .count) ns q)) (c .phase-of .ensures)
+    ∙ (ap (λ (b : Bool). answer-by b (a .count) ns) (sym (not-false (c .before .before .events-good .result) (c .before .if1 .left)))
+    ∙ answer-is (a .settings) (a .count) (a .part .now) ns _ (c .before .before .before .before .before .before .get-row .ensures) (c .before .before .before .window-length .ensures .0) (c .before .before .events-good .ensures))
 
 pub read-detector-spec : {M : Type 1} → statement M
 read-detector-spec =

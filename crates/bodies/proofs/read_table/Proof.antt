@@ -1,4 +1,4 @@
--- `check::same` tells whether the bytes are the constant's, which is the table; so its answer is the reading's test.
+-- `check::same` tells whether the bytes are those that `put_table` writes, which are the table; so its answer is the reading's test.
 use mathlib.Core.Path.{_≡_, refl, sym, _∙_, ap}
 use mathlib.Core.Bool.{Bool, true, false}
 use mathlib.Core.List.{List, [], _∷_}
@@ -7,9 +7,7 @@ use borrow.Author.Needs.{needs}
 use borrow.Author.Tests.{eq-eqb}
 use Rattle.numbers.specs.Notation.{refuse_unless_then_}
 use Rattle.numbers.specs.NotationLaws.{and-true}
-use Rattle.reading.specs.Image.{table}
 use Rattle.reading.specs.Restore.{sameBytes}
-use Rattle.bodies.specs.Bodies.{tableRefusal}
 use Rattle.bodies.specs.BodiesLaws.{same-equal}
 use Rattle.bodies.proofs.read_table.Statement.{statement}
 use Rattle.bodies.proofs.read_table.Tie as tie
@@ -31,8 +29,11 @@ answer-same xs ys false f g = go (sameBytes xs ys) refl
 abbrev number-by : Bool → ℕ
 number-by b = refuse 9 unless b then 0
 
-answer-is : (c : tie.After-same) → number-by (c .same .result) ≡ tableRefusal (c .before .before .before .args .part .now)
-answer-is c = ap number-by (answer-same (c .before .before .before .args .part .now) table (c .same .result) (c .same .ensures .0) (c .same .ensures .1))
+slice-aggregate-put-table : tie.Need-slice-aggregate-put-table
+slice-aggregate-put-table c = search needs
+
+put-table-requires : tie.Need-put-table-requires
+put-table-requires c κs = search needs
 
 slice-aggregate-same : tie.Need-slice-aggregate-same
 slice-aggregate-same c = search needs
@@ -41,10 +42,18 @@ same-requires : tie.Need-same-requires
 same-requires c κs = search needs
 
 returns : tie.Need-returns
-returns c = ap number-by (sym (c .if1 .taken)) ∙ answer-is (c .before)
+returns c = ap number-by (sym (c .if1 .taken) ∙ (answer-same (c .before .before .before .before .before .before .before .args .part .now) _ (c .before .same .result) (c .before .same .ensures .0) (c .before .same .ensures .1) ∙ ap (sameBytes (c .before .before .before .before .before .before .before .args .part .now)) (c .before .before .before .before .put-table .ensures)))
 
 returns-2 : tie.Need-returns-2
-returns-2 c = ap number-by (sym (c .if1 .left)) ∙ answer-is (c .before)
+returns-2 c = ap number-by (sym (c .if1 .left) ∙ (answer-same (c .before .before .before .before .before .before .before .args .part .now) _ (c .before .same .result) (c .before .same .ensures .0) (c .before .same .ensures .1) ∙ ap (sameBytes (c .before .before .before .before .before .before .before .args .part .now)) (c .before .before .before .before .put-table .ensures)))
 
 pub read-table-spec : {M : Type 1} → statement M
-read-table-spec = tie.close (tie.spec slice-aggregate-same same-requires returns returns-2)
+read-table-spec =
+    tie.close
+    (tie.spec
+    slice-aggregate-put-table
+    put-table-requires
+    slice-aggregate-same
+    same-requires
+    returns
+    returns-2)

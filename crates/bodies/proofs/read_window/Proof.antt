@@ -2,7 +2,7 @@
 use mathlib.Core.Path.{_≡_, sym, _∙_, ap}
 use mathlib.Core.Bool.{Bool}
 use mathlib.Core.List.{List, _∷_}
-use Prim.Native.Nat.{ℕ}
+use Prim.Native.Nat.{ℕ, _-_}
 use native.Mathlib.Omega.{arith}
 use lib.ListN.{length, take, drop, replicate, length-drop}
 use lib.Seq.{take-all}
@@ -15,7 +15,7 @@ use Rattle.settings.specs.Settings.{windowLength}
 use Rattle.reading.specs.Layout.{valuesLength}
 use Rattle.reading.specs.Restore.{valuesRule}
 use Rattle.bodies.specs.declared.Verdict.{Verdict}
-use Rattle.bodies.specs.Bodies.{verdictNumber, WindowTold}
+use Rattle.bodies.specs.Bodies.{valuesNumber, WindowTold}
 use Rattle.bodies.proofs.read_window.Statement.{statement}
 use Rattle.bodies.proofs.read_window.Tie as tie
 
@@ -23,12 +23,12 @@ abbrev number-by : Bool → ℕ
 number-by b = refuse 11 unless b then 0
 
 told : (s : Settings) (whole : Bool) (body : List ℕ) → length body ≡ valuesLength → {v n : ℕ} {w : List ℕ} {verdict : Verdict} →
-    v ≡ numberOf (take 4 body) → w ≡ numbersIn (replicate 120 4) (take 480 (drop 4 body)) → n ≡ windowLength s →
-    (r : Bool) → r ≡ passes (valuesRule n (flag whole) (v ∷ w)) → verdictNumber 11 verdict ≡ number-by r →
+    v ≡ numberOf (take 4 body) → w ≡ numbersIn (replicate 120 4) (take (valuesLength - 4) (drop 4 body)) → n ≡ windowLength s →
+    (r : Bool) → r ≡ passes (valuesRule n (flag whole) (v ∷ w)) → valuesNumber verdict ≡ number-by r →
     WindowTold s whole body (record { verdict = verdict; count = v; window = w })
 told s whole body size {v} {n} {w} v-is w-is n-is r e number =
     let places-are : w ≡ numbersIn (replicate 120 4) (drop 4 body) =
-    w-is ∙ ap (numbersIn (replicate 120 4)) (take-all 480 (drop 4 body) (simp length-drop (omega arith))) in
+    w-is ∙ ap (numbersIn (replicate 120 4)) (take-all (valuesLength - 4) (drop 4 body) (simp length-drop (omega arith))) in
     record {
       number-is = number ∙ (ap number-by e ∙ (λ i. number-by (passes (valuesRule (n-is i) (flag whole) (v-is i ∷ places-are i)))));
       count-is = v-is;

@@ -1,11 +1,12 @@
 -- The invariant: the logger is valid, and the arrays keep their lengths.
 use mathlib.Core.Path.{_≡_, sym}
-use Prim.Native.Nat.{_≤_}
+use Prim.Native.Nat.{_≤_, _*_}
 use native.Mathlib.Omega.{arith}
 use lib.ListN.{length, length-take}
 use lib.Seq.{length-take-le}
 use borrow.Author.Needs.{needs}
 use Rattle.state.specs.State.{ValidState}
+use Rattle.reading.specs.Layout.{imageLength}
 use Rattle.call_lists.proofs.make_calls.Statement.{statement}
 use Rattle.call_lists.proofs.make_calls.Tie as tie
 
@@ -13,7 +14,7 @@ abbrev Inv-loop : tie.InvT-loop
 Inv-loop calls bytes₀ space₀ saves₀ list₀ left₀ bytes space saves list left =
     (length bytes ≡ 65535)
     × (length space ≡ 65535)
-    × (length saves ≡ 9920)
+    × (length saves ≡ 16 * imageLength)
     × ValidState (list .logger .state)
     × (list .kept ≤ 16)
 

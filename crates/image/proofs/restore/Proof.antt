@@ -16,7 +16,7 @@ use Rattle.state.specs.State.{stateWith}
 use Rattle.bodies.specs.declared.Verdict.{Verdict}
 use Rattle.bodies.specs.declared.GathererRead.{GathererRead}
 use Rattle.bodies.specs.declared.DetectorRead.{DetectorRead}
-use Rattle.bodies.specs.Bodies.{verdictNumber, gathererTold, detectorTold, detectorAnswer}
+use Rattle.bodies.specs.Bodies.{tableNumber, valuesNumber, gathererTold, detectorTold, detectorAnswer}
 use Rattle.image.specs.Image.{restoredBy}
 use Rattle.image.proofs.SectionBySection.{by-table, by-settings, by-gatherer, by-window, by-detector, right-length, other-length}
 use Rattle.image.proofs.restore.Statement.{statement}
@@ -30,7 +30,7 @@ module _ (c : tie.After-read-table) where
   image = c .before .before .before .before .args .bytes .now
 
   abbrev after-table : Verdict → Restoration State
-  after-table r = by-table old image (verdictNumber 9 r)
+  after-table r = by-table old image (tableNumber r)
 
   at-table : restoredBy old image ≡ after-table (c .read-table .result)
   at-table = right-length old image (c .before .before .if1 .left) ∙ ap (by-table old image) (sym (c .read-table .ensures))
@@ -75,7 +75,7 @@ module _ (c : tie.After-read-window) where
   gatherer = c .before .before .before .gatherer .given .0 .0
 
   abbrev after-window : Verdict → Restoration State
-  after-window r = by-window (old (first g)) (image (first g)) (settings g) gatherer (verdictNumber 11 r)
+  after-window r = by-window (old (first g)) (image (first g)) (settings g) gatherer (valuesNumber r)
 
   at-window : restoredBy (old (first g)) (image (first g)) ≡ after-window (c .read-window .result .verdict)
   at-window =

@@ -2,9 +2,8 @@
 use mathlib.Core.Path.{ap}
 use mathlib.Core.List.{List}
 use Prim.Native.Nat.{ℕ}
-use native.Mathlib.Omega.{arith}
 use borrow.Author.Needs.{needs}
-use Rattle.octets.specs.Bytes.{Bytes, numbersIn}
+use Rattle.octets.specs.Bytes.{Bytes}
 use Rattle.octets.specs.BytesLaws.{bytes-by}
 use Rattle.octets.specs.RowLaws.{numbersIn-fit}
 use Rattle.reading.specs.Layout.{recordWidths}

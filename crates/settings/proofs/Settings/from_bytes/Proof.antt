@@ -5,7 +5,7 @@ use Prim.Native.Nat.{ℕ, zero, suc}
 use borrow.Author.Needs.{needs}
 use borrow.Author.Tests.{eq-eqb, ne-eqb}
 use Rattle.numbers.specs.NotationLaws.{refuse-fails, refuse-passes}
-use Rattle.numbers.specs.Answers.{Answered, answered}
+use Rattle.numbers.specs.Answers.{answered}
 use Rattle.numbers.specs.Answers.Answered.{refused}
 use Rattle.settings.specs.Settings.{settingsLength, settingsOf, settingsRefusal, startRefusal, settingsRead}
 use Rattle.settings.specs.declared.Settings.{Settings}

@@ -5,8 +5,8 @@ use Rattle.numbers.specs.Notation.{flag}
 use Rattle.numbers.specs.RulesLaws.{broken, decides, passed, holds, answered-no, answered-yes}
 use Rattle.reading.specs.Restore.{wholeRule, placesRule, valuesRule}
 use mathlib.Core.List.{_∷_}
-use Rattle.bodies.proofs.values_good.Statement.{statement}
-use Rattle.bodies.proofs.values_good.Tie as tie
+use Rattle.rules.proofs.values_good.Statement.{statement}
+use Rattle.rules.proofs.values_good.Tie as tie
 
 whole-good-requires : tie.Need-whole-good-requires
 whole-good-requires c κs = search needs

@@ -11,8 +11,8 @@ use mathlib.Core.Bool.{_&&_}
 use mathlib.Core.List.{[], _∷_}
 use Rattle.numbers.specs.Notation.{_≤ᵇ_, all}
 use Rattle.window.specs.Range.{between}
-use Rattle.bodies.proofs.all_up_to.Statement.{statement}
-use Rattle.bodies.proofs.all_up_to.Tie as tie
+use Rattle.rules.proofs.all_up_to.Statement.{statement}
+use Rattle.rules.proofs.all_up_to.Tie as tie
 
 up-to : (most : ℕ) (places : List ℕ) → all (between 0 most) places ≡ all (_≤ᵇ most) places
 up-to most [] = refl

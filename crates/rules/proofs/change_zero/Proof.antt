@@ -6,13 +6,13 @@ use native.Mathlib.Omega.{arith}
 use lib.ListN.{getD}
 use borrow.Author.Needs.{needs}
 use borrow.Author.Tests.{eqb-true, eq-eqb}
-use Rattle.numbers.specs.Rules.Rule.{zeros}
+use Rattle.numbers.specs.Rules.Rule.{allZero}
 use Rattle.numbers.specs.RulesLaws.{broken, decides}
 use mathlib.Core.List.{[], _∷_}
 use Prim.Native.Nat.{zero, suc, _≤_}
 use lib.ListN.{length}
-use Rattle.bodies.proofs.change_zero.Statement.{statement}
-use Rattle.bodies.proofs.change_zero.Tie as tie
+use Rattle.rules.proofs.change_zero.Statement.{statement}
+use Rattle.rules.proofs.change_zero.Tie as tie
 
 -- behind its last number a list has 0
 behind : (l : List ℕ) (i : ℕ) → length l ≤ i → getD l i 0 ≡ 0
@@ -32,25 +32,25 @@ shared-slice-read-if1 : tie.Need-shared-slice-read-if1
 shared-slice-read-if1 c = search needs
 
 returns : tie.Need-returns
-returns c = let a = c .before .before .args in broken (zeros (a .numbers .now)) (λ h. c .if1 .taken (h 0))
+returns c = let a = c .before .before .args in broken (allZero (a .numbers .now)) (λ h. c .if1 .taken (h 0))
 
 shared-slice-read-if2 : tie.Need-shared-slice-read-if2
 shared-slice-read-if2 c = search needs
 
 returns-2 : tie.Need-returns-2
-returns-2 c = let a = c .before .before .before .before .args in broken (zeros (a .numbers .now)) (λ h. c .if2 .taken (h 1))
+returns-2 c = let a = c .before .before .before .before .args in broken (allZero (a .numbers .now)) (λ h. c .if2 .taken (h 1))
 
 shared-slice-read-if3 : tie.Need-shared-slice-read-if3
 shared-slice-read-if3 c = search needs
 
 returns-3 : tie.Need-returns-3
-returns-3 c = let a = c .before .before .before .before .before .before .args in broken (zeros (a .numbers .now)) (λ h. c .if3 .taken (h 2))
+returns-3 c = let a = c .before .before .before .before .before .before .args in broken (allZero (a .numbers .now)) (λ h. c .if3 .taken (h 2))
 
 shared-slice-read-result : tie.Need-shared-slice-read-result
 shared-slice-read-result c = search needs
 
 returns-4 : tie.Need-returns-4
-returns-4 c = let a = c .before .before .before .before .before .before .before .args in decides (zeros (a .numbers .now)) _ (λ e. four-zero (a .numbers .now) (c .before .before .before .before .before .before .before .pre) (c .before .before .before .before .before .if1 .left) (c .before .before .before .if2 .left) (c .before .if3 .left) (eqb-true _ 0 e)) (λ h. eq-eqb _ 0 (h 3))
+returns-4 c = let a = c .before .before .before .before .before .before .before .args in decides (allZero (a .numbers .now)) _ (λ e. four-zero (a .numbers .now) (c .before .before .before .before .before .before .before .pre) (c .before .before .before .before .before .if1 .left) (c .before .before .before .if2 .left) (c .before .if3 .left) (eqb-true _ 0 e)) (λ h. eq-eqb _ 0 (h 3))
 
 pub change-zero-spec : {M : Type 1} → statement M
 change-zero-spec =

@@ -5,8 +5,8 @@ use borrow.Author.Needs.{needs}
 use borrow.Author.Tests.{eqb-true, eq-eqb}
 use Rattle.numbers.specs.RulesLaws.{broken, decides, passed}
 use Rattle.reading.specs.Restore.{gathererRule}
-use Rattle.bodies.proofs.gatherer_good.Statement.{statement}
-use Rattle.bodies.proofs.gatherer_good.Tie as tie
+use Rattle.rules.proofs.gatherer_good.Statement.{statement}
+use Rattle.rules.proofs.gatherer_good.Tie as tie
 
 shared-slice-read-count : tie.Need-shared-slice-read-count
 shared-slice-read-count c = search needs

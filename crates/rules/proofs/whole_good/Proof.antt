@@ -5,8 +5,8 @@ use borrow.Author.Tests.{eqb-true, eq-eqb}
 use Rattle.numbers.specs.Notation.{flag}
 use Rattle.numbers.specs.RulesLaws.{decides, passed}
 use Rattle.reading.specs.Restore.{wholeRule}
-use Rattle.bodies.proofs.whole_good.Statement.{statement}
-use Rattle.bodies.proofs.whole_good.Tie as tie
+use Rattle.rules.proofs.whole_good.Statement.{statement}
+use Rattle.rules.proofs.whole_good.Tie as tie
 
 returns : tie.Need-returns
 returns c = let a = c .before .args in sym (passed (wholeRule (flag (a .whole)) (a .count)) (λ z. absurd (omega (arith, ap flag (c .if1 .taken)))))
