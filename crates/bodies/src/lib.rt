@@ -8,7 +8,6 @@ use settings::Settings;
 use threshold::Standing;
 ghost use mathlib.Core.Path.{_≡_};
 ghost use mathlib.Core.List.{_∷_};
-ghost use Prim.Native.Nat.{_+_};
 ghost use lib.ListN.{length};
 ghost use Rattle.octets.specs.Bytes.{row};
 ghost use Rattle.numbers.specs.Notation.{flag};
