@@ -1,8 +1,14 @@
 #!/usr/bin/env python3
-"""Writes the image vectors of crates/image_vectors, from document 01 alone: `stdin`, a good image and then changes to it, and `stdout`, the number that restore
-gives each. Run it at the top of the repository. A change is 14 bytes: the image's length (2), an offset (2), a width (2), a number (8), all little-endian; a
+"""Writes the image vectors of crates/image_vectors into a folder, from document 01 alone: `stdin`, a good image and then changes to it, and `stdout`, the number
+that restore gives each.
+
+    python3 outside/image_vectors.py FOLDER
+
+A change is 14 bytes: the image's length (2), an offset (2), a width (2), a number (8), all little-endian; a
 width from 128 on keeps the change for the next one and asks for no number yet."""
+import os
 import struct
+import sys
 
 TOP = 524288
 LAST = 4294967295
@@ -81,9 +87,12 @@ vectors += [(620, [(576, 4, phase)] + none) for phase in (0, 1, 2, 3)]
 vectors += [(620, [(576, 4, phase)] + none[:j] + none[j + 1:]) for phase in (1, 2) for j in range(4)]
 empty = [(92, 4, 0), (88, 4, 0), (80, 8, 0), (576, 4, 0), (596, 4, 0), (600, 4, 0)] + none + [(96 + 8 * j, 8, 0) for j in range(50)]
 vectors += [(620, empty), (620, empty + [(80, 8, 1)]), (620, empty + [(92, 4, 1), (96, 4, 5)]), (620, empty + [(88, 4, 1), (92, 4, 1), (96, 4, 5)]), (620, empty + [(88, 4, 1)])]
+vectors += [(620, [(48, 4, 0), (44, 4, t)]) for t in (49, 50)]
 vectors += [(620, [(604, 4, 7), (608, 4, 9)]), (620, [(604, 4, 7), (608, 4, 0)]), (620, [(36, 4, 60), (580, 4, 121), (588, 4, 0)]), (620, [(36, 4, 60), (580, 4, 120), (588, 4, 0)])]
 
-with open('crates/image_vectors/stdin', 'wb') as file, open('crates/image_vectors/stdout', 'w') as expected:
+if len(sys.argv) != 2:
+    sys.exit(__doc__)
+with open(os.path.join(sys.argv[1], 'stdin'), 'wb') as file, open(os.path.join(sys.argv[1], 'stdout'), 'w') as expected:
     file.write(GOOD)
     for length, changes in vectors:
         image = bytearray(GOOD) + bytearray(20)

@@ -1,44 +1,63 @@
-//! What the event program prints, once by the engineer and once by the logger; and the recording
+//! What the event program writes, once by the engineer and once by the logger; and the recording
 //! that it is run on in the gate.
 
-use crate::engineer::Engineer;
+use crate::engineer::{Engineer, Looked};
 use crate::logger::Logger;
 use crate::rng::Rng;
 use crate::rules::{self, four, RECORD};
 use crate::waves;
 
-/// One line for each record, then V.
-fn lines(records: &[u8], v: u64) -> String {
-    let mut text = String::from("kind start halves first second\n");
-    for x in records.chunks_exact(RECORD) {
-        let kind = ["dip", "swell", "interruption", "rvc"][x[0] as usize - 1];
-        let columns = [4, 8, 12, 16].map(|at| four(x, at).to_string()).join(" ");
-        text += &format!("{kind} {columns}\n");
+const KINDS: [&str; 4] = ["dip", "swell", "interruption", "rvc"];
+
+/// What the program writes to standard output and to standard error.
+#[derive(Clone, Debug, PartialEq, Eq)]
+pub struct Text {
+    pub printed: String,
+    pub told: String,
+}
+
+impl Text {
+    /// A line for each record, then V; and what has not ended, which has no record.
+    fn of(records: &[u8], looked: Looked) -> Text {
+        let mut printed = String::from("kind start halves first second\n");
+        for x in records.chunks_exact(RECORD) {
+            let columns = [4, 8, 12, 16].map(|at| four(x, at).to_string()).join(" ");
+            printed += &format!("{} {columns}\n", KINDS[x[0] as usize - 1]);
+        }
+        printed += &format!("values {}\n", looked.v);
+        let [dip, swell, interruption] = looked.stand;
+        let stand = [dip, swell, interruption, looked.phase == 3];
+        let lines = KINDS.iter().zip(stand).filter(|x| x.1);
+        let told = lines.map(|x| format!("event_log: not ended: {}\n", x.0)).collect();
+        Text { printed, told }
     }
-    text + &format!("values {v}\n")
+
+    fn refused(number: u32) -> Text {
+        Text { printed: format!("refused {number}\n"), told: String::new() }
+    }
 }
 
 fn split(input: &[u8]) -> (&[u8], &[u8]) {
     input.split_at(input.len().min(36))
 }
 
-pub fn by_engineer(input: &[u8]) -> String {
+pub fn by_engineer(input: &[u8]) -> Text {
     let (settings, samples) = split(input);
     let mut engineer = match Engineer::start(settings) {
         Ok(engineer) => engineer,
-        Err(number) => return format!("refused {number}\n"),
+        Err(number) => return Text::refused(number),
     };
     let block: Vec<i16> =
         samples.as_chunks::<2>().0.iter().map(|&x| i16::from_le_bytes(x)).collect();
     let (_, records) = engineer.feed(&block, usize::MAX);
-    lines(&records, engineer.look().v)
+    Text::of(&records, engineer.look())
 }
 
-pub fn by_logger(input: &[u8]) -> String {
+pub fn by_logger(input: &[u8]) -> Text {
     let (settings, samples) = split(input);
     let mut logger = match Logger::start(settings) {
         Ok(logger) => logger,
-        Err(number) => return format!("refused {number}\n"),
+        Err(number) => return Text::refused(number),
     };
     let mut left = samples.as_chunks::<2>().0;
     let mut records = Vec::new();
@@ -48,7 +67,7 @@ pub fn by_logger(input: &[u8]) -> String {
         records.extend(&room[..RECORD * fed.written as usize]);
         left = &left[fed.taken as usize..];
         if fed.why != 1 {
-            return lines(&records, logger.look().v);
+            return Text::of(&records, logger.look());
         }
     }
 }

@@ -1,8 +1,8 @@
 //! Recordings as the event program reads them: the engineer's text, the logger's and, where a
-//! program is given, what it prints.
+//! program is given, what it writes.
 
 use crate::hosts::{demand, Outcome, Run};
-use crate::program;
+use crate::program::{self, Text};
 use crate::rng::{one_of, Rng};
 use crate::rules::settings_bytes;
 use crate::waves;
@@ -29,15 +29,14 @@ impl Run<'_> {
         }
         let expected = program::by_engineer(&input);
         let text = program::by_logger(&input);
-        self.seen.texts += 1;
-        demand(text == expected, || format!("the logger's text {text:?}, not {expected:?}"))?;
+        self.seen.text(&expected.told);
+        demand(text == expected, || format!("the logger's {text:?}, not {expected:?}"))?;
         let pieces = pieces(rng, input.len());
         let Some(path) = self.program else { return Ok(()) };
-        let text = printed(path, &input, &pieces)?;
+        let text = written(path, &input, &pieces)?;
         self.seen.programs += 1;
-        demand(text == expected.as_bytes(), || {
-            let text = String::from_utf8_lossy(&text);
-            format!("{path} prints {text:?}, not {expected:?}; {} bytes", input.len())
+        demand(text == expected, || {
+            format!("{path} writes {text:?}, not {expected:?}; {} bytes", input.len())
         })
     }
 }
@@ -56,11 +55,12 @@ pub fn pieces(rng: &mut Rng, length: usize) -> Vec<usize> {
     list
 }
 
-/// What the program prints on this input, given in these pieces.
-pub fn printed(path: &str, input: &[u8], pieces: &[usize]) -> Outcome<Vec<u8>> {
+/// What the program writes on this input, given in these pieces.
+pub fn written(path: &str, input: &[u8], pieces: &[usize]) -> Outcome<Text> {
     let cannot = |x: std::io::Error| format!("{path}: {x}");
-    let mut child =
-        Command::new(path).stdin(Stdio::piped()).stdout(Stdio::piped()).spawn().map_err(cannot)?;
+    let mut command = Command::new(path);
+    command.stdin(Stdio::piped()).stdout(Stdio::piped()).stderr(Stdio::piped());
+    let mut child = command.spawn().map_err(cannot)?;
     let mut pipe = child.stdin.take().unwrap();
     thread::scope(|scope| {
         let writer = scope.spawn(move || {
@@ -82,6 +82,7 @@ pub fn printed(path: &str, input: &[u8], pieces: &[usize]) -> Outcome<Vec<u8>> {
         let output = child.wait_with_output().map_err(cannot)?;
         writer.join().unwrap().map_err(cannot)?;
         demand(output.status.code().is_some(), || format!("{path}: {}", output.status))?;
-        Ok(output.stdout)
+        let text = |bytes: Vec<u8>| String::from_utf8_lossy(&bytes).into_owned();
+        Ok(Text { printed: text(output.stdout), told: text(output.stderr) })
     })
 }

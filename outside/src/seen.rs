@@ -22,7 +22,11 @@ pub struct Seen {
     /// Recordings read as the event program does, and those that a program was run on.
     pub texts: u64,
     pub programs: u64,
+    /// Events that had not ended with a recording, by kind, 1 to 4.
+    pub not_ended: [u64; 5],
 }
+
+const KINDS: [(usize, &str); 4] = [(1, "dip"), (2, "swell"), (3, "interruption"), (4, "rvc")];
 
 impl Seen {
     pub fn call(&mut self, name: &str) {
@@ -37,6 +41,13 @@ impl Seen {
         }
     }
 
+    pub fn text(&mut self, told: &str) {
+        self.texts += 1;
+        for (kind, name) in KINDS {
+            self.not_ended[kind] += told.lines().any(|line| line.ends_with(name)) as u64;
+        }
+    }
+
     /// Every count under its name.
     pub fn counts(&self) -> Vec<(String, u64)> {
         let mut list = Vec::new();
@@ -44,7 +55,7 @@ impl Seen {
         for (name, &count) in CALLS.iter().zip(&self.calls) {
             add(name.to_string(), count);
         }
-        for (kind, name) in [(1, "dip"), (2, "swell"), (3, "interruption"), (4, "rvc")] {
+        for (kind, name) in KINDS {
             add(format!("record {name}"), self.records[kind]);
         }
         add("changes dropped".into(), self.dropped);
@@ -59,6 +70,9 @@ impl Seen {
             add(format!("advance refuses {number}"), self.advance_refusals[number]);
         }
         add("texts".into(), self.texts);
+        for (kind, name) in KINDS {
+            add(format!("not ended: {name}"), self.not_ended[kind]);
+        }
         list
     }
 }

@@ -149,8 +149,12 @@ fn the_event_program() {
     let mut input = bytes(Q);
     input.extend(waves::bytes(&program_samples()));
     let text = "kind start halves first second\ndip 3 3 800 0\nvalues 7\n";
-    for program in [program::by_engineer, program::by_logger] {
+    for write in [program::by_engineer, program::by_logger] {
+        let program = |input: &[u8]| write(input).printed;
         assert_eq!(program(&input), text);
+        assert_eq!(write(&input).told, "");
+        // Both half-cycles of 50 counts, and the first value of the dip.
+        assert_eq!(write(&input[..36 + 2 * 40]).told, "event_log: not ended: dip\n");
         // A last odd byte is ignored.
         assert_eq!(program(&[&input[..], &[1]].concat()), text);
         assert_eq!(program(&input[..36]), "kind start halves first second\nvalues 0\n");

@@ -13,8 +13,8 @@ fn recordings_give_their_text() {
     for name in ["worked", "crusher", "busy"] {
         let input = fs::read(top().join(format!("examples/{name}.bin"))).unwrap();
         let text = fs::read_to_string(top().join(format!("examples/{name}.txt"))).unwrap();
-        assert_eq!(program::by_engineer(&input), text, "{name}");
-        assert_eq!(program::by_logger(&input), text, "{name}");
+        assert_eq!(program::by_engineer(&input).printed, text, "{name}");
+        assert_eq!(program::by_logger(&input).printed, text, "{name}");
     }
 }
 

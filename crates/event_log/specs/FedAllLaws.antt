@@ -144,14 +144,15 @@ left-taken (x ∷ xs) st inside = go (machine .atEnd st x) refl (left-taken xs (
 abbrev pub leftWhile : Bool → State → ℕ
 leftWhile more st = if more then 1 + left st else 0
 
-pub chunk-falls : (l : Logger) (bytes : List ℕ) (got : ℕ) (t : FedAll) (more : Bool) → ValidState (l .state) → length bytes ≡ got → t ≡ fedAllFrom l (samplesOf bytes)
-    → more ≡ (got ≡ᵇ 2048 && t .why ≡ᵇ 0) → leftWhile more (t .logger .state) < leftWhile true (l .state)
-chunk-falls l bytes got t more valid long is more-is = rw more-is (go (got ≡ᵇ 2048) (t .why ≡ᵇ 0) refl refl)
+pub chunk-falls : (l : Logger) (bytes : List ℕ) (good : Bool) (got : ℕ) (t : FedAll) (more : Bool) → ValidState (l .state) → length bytes ≡ got
+    → t ≡ fedAllFrom l (samplesOf bytes) → more ≡ (good && got ≡ᵇ 2048 && t .why ≡ᵇ 0) → leftWhile more (t .logger .state) < leftWhile true (l .state)
+chunk-falls l bytes good got t more valid long is more-is = rw more-is (go good (got ≡ᵇ 2048) (t .why ≡ᵇ 0) refl refl)
   where
-    go : (a b : Bool) → (got ≡ᵇ 2048) ≡ a → (t .why ≡ᵇ 0) ≡ b → leftWhile (a && b) (t .logger .state) < leftWhile true (l .state)
-    go false b p q = omega arith
-    go true false p q = omega arith
-    go true true p q =
-        let inside : InHalf (l .state) = (valid .settings-valid .samples-most, valid .gatherer-valid .0) in
+    go : (g a b : Bool) → (got ≡ᵇ 2048) ≡ a → (t .why ≡ᵇ 0) ≡ b → leftWhile (g && a && b) (t .logger .state) < leftWhile true (l .state)
+    go false a b p q = omega arith
+    go true false b p q = omega arith
+    go true true false p q = omega arith
+    go true true true p q =
+        let inside : InHalf (l .state) = (valid .settings-valid .samples-valid .1, valid .gatherer-valid .0) in
         let all = left-taken (samplesOf bytes) (l .state) inside (sym (ap (λ (u : FedAll). u .why) is) ∙ eqb-true (t .why) 0 q) in
         omega (arith, eqb-true got 2048 p, length-samples bytes, ap (λ (u : FedAll). left (u .logger .state)) is)

@@ -1,4 +1,6 @@
-// The event program: settings, then samples, from standard input; a line for each record, and the number of values, to standard output.
+// The event program: settings, then samples, from standard input; a line for each record, and the number of values, to standard output. What fails, and what has
+// not ended, goes to standard error.
+use libc::STDERR_FILENO;
 use libc::STDIN_FILENO;
 use libc::STDOUT_FILENO;
 use logger::Logger;
@@ -6,10 +8,12 @@ use reading::Event;
 use records::RECORD_LENGTH;
 use settings::Settings;
 use settings::SettingsRead;
+use streams::Got;
 ghost use mathlib.Core.Path.{_≡_};
 ghost use mathlib.Core.Bool.{_&&_};
 ghost use Prim.Native.Nat.{_+_, _*_, _≤_};
 ghost use lib.ListN.{length, take};
+ghost use Rattle.io.specs.Counts.{Counts};
 ghost use Rattle.numbers.specs.Notation.{_≡ᵇ_};
 ghost use Rattle.settings.specs.Settings.{ValidSettings};
 ghost use Rattle.samples.specs.Samples.{samplesOf};
@@ -29,10 +33,19 @@ const RECORDS: usize = 64;
 // The longest line: a kind of 12 letters, four columns of a space and at most 20 digits, and the line's end.
 const LINE: usize = 97;
 
+// A line of a word of 7 letters at most, a column and the line's end.
+const WORD_LINE: usize = 29;
+
 // The logger after samples, and why it took no more: 0 all taken, 2 V is at its end.
 struct FedAll {
     logger: Logger,
     why: u32,
+}
+
+// The same, and whether all its lines were printed.
+struct Turn {
+    fed: FedAll,
+    printed: bool,
 }
 
 // Puts bytes at a place of a text; tells the place behind them.
@@ -107,32 +120,36 @@ fn put_lines(text: &mut [u8], records: &[u8], count: usize) -> usize
     at
 }
 
-// Feeds samples until all are taken or V is at its end, and prints the lines of their records.
-fn feed_all(logger: Logger, samples: &[i16]) -> FedAll
+// Feeds samples until all are taken or V is at its end, and prints the lines of their records while none was lost.
+fn feed_all(logger: Logger, samples: &[i16]) -> Turn
     requires { ⌜ ValidState (logger .state) ⌝ }
-    ensures { λ r. ⌜ (r ≡ fedAllFrom logger (now (samples .entry))) × ValidState (r .logger .state) ⌝ }
+    ensures { λ r. ⌜ (r .fed ≡ fedAllFrom logger (now (samples .entry))) × ValidState (r .fed .logger .state) ⌝ }
 {
     let mut records = [0u8; RECORD_LENGTH * RECORDS];
     let mut text = [0u8; LINE * RECORDS];
     let mut held = logger;
     let mut at = 0;
     let mut why = 1;
+    let mut printed = true;
     while why == 1 {
         let fed = held.feed(&samples[at..], &mut records);
         let told = fed.told;
         let end = put_lines(&mut text, &records, told.written);
-        io::write_all(STDOUT_FILENO, &text[..end]);
+        printed = print(printed, &text[..end]);
         held = fed.logger;
         at += told.taken;
         why = told.why;
     }
-    FedAll { logger: held, why }
+    Turn {
+        fed: FedAll { logger: held, why },
+        printed,
+    }
 }
 
 // Feeds the samples of a chunk; a last odd byte is none.
-fn feed_chunk(logger: Logger, bytes: &[u8]) -> FedAll
+fn feed_chunk(logger: Logger, bytes: &[u8]) -> Turn
     requires { ⌜ ValidState (logger .state) × (length (now bytes) ≤ 2048) ⌝ }
-    ensures { λ r. ⌜ (r ≡ fedAllFrom logger (samplesOf (now (bytes .entry)))) × ValidState (r .logger .state) ⌝ }
+    ensures { λ r. ⌜ (r .fed ≡ fedAllFrom logger (samplesOf (now (bytes .entry)))) × ValidState (r .fed .logger .state) ⌝ }
 {
     let count = bytes.len() / 2;
     let even = 2 * count;
@@ -142,42 +159,111 @@ fn feed_chunk(logger: Logger, bytes: &[u8]) -> FedAll
     feed_all(logger, samples)
 }
 
-// Whether there may be more: not behind a short chunk, nor at V's end.
-fn goes_on(got: usize, why: u32) -> bool
-    ensures { λ r. ⌜ r ≡ (got ≡ᵇ 2048 && why ≡ᵇ 0) ⌝ }
+// Reads until the bytes are full or the input ends; a read that fails is told.
+fn read(bytes: &mut [u8]) -> Got
+    ensures { λ r. ⌜ Counts (r .count) (now (bytes .exit)) ⌝ }
 {
-    got == CHUNK_BYTES && why == 0
+    let got = streams::read_full(STDIN_FILENO, bytes);
+    if got.failed {
+        os::fail(b"event_log: standard input");
+    }
+    got
 }
 
-fn print_line(word: &[u8], number: u64) {
-    io::write_all(STDOUT_FILENO, word);
-    io::print_decimal(STDOUT_FILENO, number);
-    io::write_all(STDOUT_FILENO, b"\n");
+// Prints, unless something was lost before, and tells whether nothing is; a write that fails is told.
+fn print(printed: bool, text: &[u8]) -> bool {
+    if !printed {
+        return false;
+    }
+    let written = streams::write_all(STDOUT_FILENO, text);
+    if !written {
+        os::fail(b"event_log: standard output");
+    }
+    written
 }
 
-// Feeds a fresh logger to the end of the input or of V, and prints.
+// Prints a line of a word of 7 letters at most and a number.
+fn print_line(word: &[u8], number: u64) -> bool
+    requires { ⌜ length (now word) ≤ 7 ⌝ }
+{
+    let mut text = [0u8; WORD_LINE];
+    let space = put(&mut text, 0, word);
+    let behind = put_column(&mut text, space, number);
+    let end = put(&mut text, behind, b"\n");
+    print(true, &text[..end])
+}
+
+fn refuse(number: u64) {
+    print_line(b"refused", number);
+}
+
+// Tells on standard error of an event that stands.
+fn tell(stands: bool, name: &[u8]) {
+    if stands {
+        streams::write_all(STDERR_FILENO, b"event_log: not ended: ");
+        streams::write_all(STDERR_FILENO, name);
+    }
+}
+
+// Prints the number of values; tells of what has no record, since it has not ended, and of V's end, where samples are left.
+fn finish(logger: Logger, why: u32)
+    requires { ⌜ ValidState (logger .state) ⌝ }
+{
+    let readings = logger.look();
+    if print_line(b"values", readings.count) {
+        tell(readings.dip, b"dip\n");
+        tell(readings.swell, b"swell\n");
+        tell(readings.interruption, b"interruption\n");
+        tell(readings.phase == 3, b"rvc\n");
+        if why == 2 {
+            streams::write_all(
+                STDERR_FILENO,
+                b"event_log: the number of values is at its end: further samples are not taken\n",
+            );
+        }
+    }
+}
+
+// Whether there may be more: not where something failed, nor behind a short chunk, nor at V's end.
+fn goes_on(good: bool, got: usize, why: u32) -> bool
+    ensures { λ r. ⌜ r ≡ (good && got ≡ᵇ 2048 && why ≡ᵇ 0) ⌝ }
+{
+    good & (got == CHUNK_BYTES) & (why == 0)
+}
+
+// Feeds a fresh logger to the end of the input or of V, and prints. Where something fails it prints no more: a text without its last line is not whole.
 fn log(settings: Settings)
     requires { ⌜ ValidSettings settings ⌝ }
 {
-    io::write_all(STDOUT_FILENO, b"kind start halves first second\n");
+    let mut good = print(true, b"kind start halves first second\n");
     let mut logger = Logger::fresh(settings);
     let mut bytes = [0u8; CHUNK_BYTES];
-    let mut more = true;
+    let mut why = 0;
+    let mut more = good;
     while more {
-        let got = io::read_full(STDIN_FILENO, &mut bytes);
-        let taken = feed_chunk(logger, &bytes[..got]);
-        logger = taken.logger;
-        more = goes_on(got, taken.why);
+        let got = read(&mut bytes);
+        let count = got.count;
+        let turn = feed_chunk(logger, &bytes[..count]);
+        let fed = turn.fed;
+        logger = fed.logger;
+        why = fed.why;
+        good = turn.printed & !got.failed;
+        more = goes_on(good, count, why);
     }
-    let readings = logger.look();
-    print_line(b"values ", readings.count);
+    if good {
+        finish(logger, why);
+    }
 }
 
 fn main() {
     let mut bytes = [0u8; Settings::LENGTH];
-    let got = io::read_full(STDIN_FILENO, &mut bytes);
-    match Settings::from_bytes(&bytes[..got]) {
+    let got = read(&mut bytes);
+    if got.failed {
+        return;
+    }
+    let count = got.count;
+    match Settings::from_bytes(&bytes[..count]) {
         SettingsRead::Read(settings) => log(settings),
-        SettingsRead::Refused(number) => print_line(b"refused ", number as u64),
+        SettingsRead::Refused(number) => refuse(number as u64),
     }
 }

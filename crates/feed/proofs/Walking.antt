@@ -97,7 +97,7 @@ module _ (s : Settings) (w₀ : List ℕ) (block : List ℤ) (lent : List ℕ) (
         wide = wide;
         fits = omega (arith, so-far .fits);
         share-in = omega (arith, within .inside, so-far .at-in, length-drop at block);
-        samples-most = so-far .valid .settings-valid .samples-most;
+        samples-most = so-far .valid .settings-valid .samples-valid .1;
         sum-le = so-far .valid .gatherer-valid .1 .0;
       }
 

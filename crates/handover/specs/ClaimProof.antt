@@ -67,7 +67,7 @@ take-over n bytes lent l = take-at bytes (drop (length bytes) lent) n l
 
 module _ (s : Settings) (valid : ValidSettings s) where
   some : 0 < s .samples
-  some = omega (arith, valid .samples-least)
+  some = omega (arith, valid .samples-valid .0)
 
   -- the records of a recording
   abbrev recordsOf : List ℤ → List ℕ

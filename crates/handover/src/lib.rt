@@ -1,4 +1,4 @@
-// Demands 2 and 3, of `loggerCalls`; and the calls themselves, each with what the claim says of it.
+// Demands 2 and 3, of `loggerCalls`; and the calls themselves, each with the equation that the claim reads it by.
 use logger::Fed;
 use logger::Logger;
 use logger::Resumed;

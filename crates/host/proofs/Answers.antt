@@ -1,15 +1,16 @@
 -- The ways of advance: each refusal leaves every buffer as it was; else the buffers are those of restore, feed and save.
 use mathlib.Core.Path.{_≡_, sym, _∙_, ap}
-use mathlib.Core.Bool.{Bool, true, false}
+use mathlib.Core.Bool.{Bool, true, false, not}
 use mathlib.Core.List.{List}
 use Prim.Native.Nat.{ℕ, zero, suc, _%_, _≤_, _<_}
 use native.Mathlib.Omega.{arith}
 use lib.ListN.{length}
-use borrow.Author.Tests.{eq-eqb, ne-eqb, lt-leb, le-leb, le-ltb}
-use Rattle.numbers.specs.Notation.{_≤ᵇ_, _<ᵇ_, _≡ᵇ_, refuse_unless_then_, if_then_else_}
+use borrow.Author.Tests.{eq-eqb, ne-eqb, lt-leb, le-leb, lt-ltb, le-ltb}
+use Rattle.numbers.specs.Notation.{_≤ᵇ_, _≡ᵇ_, refuse_unless_then_, if_then_else_}
 use Rattle.reading.specs.declared.Told.{Told}
 use Rattle.reading.specs.Restore.{restoreRefusal}
 use Rattle.reading.specs.Calls.{Outcome, Saved, Restoration}
+use Rattle.reading.specs.Engineer.{tooShort}
 use Rattle.reading.specs.Layout.{imageLength, replyLength}
 use Rattle.samples.specs.Samples.{samplesOf}
 use Rattle.state.specs.declared.State.{State}
@@ -49,7 +50,7 @@ module _ (image samples next records reply : List ℕ) where
         go zero p = absurd (omega (arith, p .1))
         go (suc n) p =
             refused-by n
-            (ap (λ (t : Bool). goes (restoreRefusal image) t (length samples % 2 ≡ᵇ 0) (imageLength ≤ᵇ length next) (replyLength ≤ᵇ length reply))
+            (ap (λ (t : Bool). goes (restoreRefusal image) t (length samples % 2 ≡ᵇ 0) (not (tooShort next)) (replyLength ≤ᵇ length reply))
             (ne-eqb (restoreRefusal image) 0 (λ z. omega (arith, p .0, p .1)))
             ∙ p .0)
 
@@ -61,22 +62,25 @@ module _ (image samples next records reply : List ℕ) where
       end-is : end ≡ stateAt image
       end-is = ap (λ (r : Restoration State). r .after) is ∙ read .1
 
-      good : advanceRefusal image samples next reply ≡ goes 0 true (length samples % 2 ≡ᵇ 0) (imageLength ≤ᵇ length next) (replyLength ≤ᵇ length reply)
-      good = ap (λ (r : ℕ). goes r (r ≡ᵇ 0) (length samples % 2 ≡ᵇ 0) (imageLength ≤ᵇ length next) (replyLength ≤ᵇ length reply)) (read .0)
+      good : advanceRefusal image samples next reply ≡ goes 0 true (length samples % 2 ≡ᵇ 0) (not (tooShort next)) (replyLength ≤ᵇ length reply)
+      good = ap (λ (r : ℕ). goes r (r ≡ᵇ 0) (length samples % 2 ≡ᵇ 0) (not (tooShort next)) (replyLength ≤ᵇ length reply)) (read .0)
 
       pub odd-refused : (length samples % 2 ≡ 0 → ⊥) → AdvanceIs 12
-      odd-refused odd = refused-by 11 (good ∙ ap (λ (t : Bool). goes 0 true t (imageLength ≤ᵇ length next) (replyLength ≤ᵇ length reply)) (ne-eqb (length samples % 2) 0 odd))
+      odd-refused odd = refused-by 11 (good ∙ ap (λ (t : Bool). goes 0 true t (not (tooShort next)) (replyLength ≤ᵇ length reply)) (ne-eqb (length samples % 2) 0 odd))
 
       module _ (even : length samples % 2 ≡ 0) where
-        evens : advanceRefusal image samples next reply ≡ goes 0 true true (imageLength ≤ᵇ length next) (replyLength ≤ᵇ length reply)
-        evens = good ∙ ap (λ (t : Bool). goes 0 true t (imageLength ≤ᵇ length next) (replyLength ≤ᵇ length reply)) (eq-eqb (length samples % 2) 0 even)
+        evens : advanceRefusal image samples next reply ≡ goes 0 true true (not (tooShort next)) (replyLength ≤ᵇ length reply)
+        evens = good ∙ ap (λ (t : Bool). goes 0 true t (not (tooShort next)) (replyLength ≤ᵇ length reply)) (eq-eqb (length samples % 2) 0 even)
 
         pub next-refused : length next < imageLength → AdvanceIs 7
-        next-refused short = refused-by 6 (evens ∙ ap (λ (t : Bool). goes 0 true true t (replyLength ≤ᵇ length reply)) (lt-leb imageLength (length next) short))
+        next-refused short = refused-by 6 (evens ∙ ap (λ (t : Bool). goes 0 true true t (replyLength ≤ᵇ length reply)) (ap not (lt-ltb (length next) imageLength short)))
 
         module _ (long : imageLength ≤ length next) where
+          fits : tooShort next ≡ false
+          fits = le-ltb (length next) imageLength long
+
           longs : advanceRefusal image samples next reply ≡ goes 0 true true true (replyLength ≤ᵇ length reply)
-          longs = evens ∙ ap (λ (t : Bool). goes 0 true true t (replyLength ≤ᵇ length reply)) (le-leb imageLength (length next) long)
+          longs = evens ∙ ap (λ (t : Bool). goes 0 true true t (replyLength ≤ᵇ length reply)) (ap not fits)
 
           pub reply-refused : length reply < replyLength → AdvanceIs 13
           reply-refused short = refused-by 12 (longs ∙ ap (goes 0 true true true) (lt-leb replyLength (length reply) short))
@@ -88,7 +92,6 @@ module _ (image samples next records reply : List ℕ) where
           unfolding advanced saveAnswer
           all-done full after told out replied₁ saved number feeds replies saves =
               let zero-is : advanceRefusal image samples next reply ≡ 0 = longs ∙ ap (goes 0 true true true) (le-leb replyLength (length reply) full) in
-              let fits : (length next <ᵇ imageLength) ≡ false = le-ltb (length next) imageLength long in
               let f : fedTo after told out ≡ fed = feeds ∙ ap (λ (st : State). fedWith st (samplesOf samples) records) end-is in
               let n : number ≡ 0 = ap (λ (r : Saved). r .number) saves ∙ ap (λ (t : Bool). if t then 7 else 0) fits in
               let s : saved ≡ loggerCalls .save after next .bytes = ap (λ (r : Saved). r .bytes) saves in

@@ -1,4 +1,5 @@
 -- What the two calls of a host answer, and what they leave in each lent buffer.
+use mathlib.Core.Bool.{not}
 use mathlib.Core.List.{List, [], _∷_}
 use Prim.Native.Nat.{ℕ, zero, suc, _%_}
 use lib.ListN.{length}
@@ -9,8 +10,8 @@ use Rattle.numbers.specs.Answers.Answered.{accepted, refused}
 use Rattle.reading.specs.declared.Told.{Told}
 use Rattle.reading.specs.Restore.{restoreRefusal}
 use Rattle.reading.specs.Calls.{Outcome}
-use Rattle.reading.specs.Engineer.{over}
-use Rattle.reading.specs.Layout.{imageLength, replyWidths, replyLength}
+use Rattle.reading.specs.Engineer.{over, tooShort}
+use Rattle.reading.specs.Layout.{replyWidths, replyLength}
 use Rattle.samples.specs.Samples.{samplesOf}
 use Rattle.state.specs.declared.State.{State}
 use Rattle.image.specs.Image.{stateAt}
@@ -46,7 +47,7 @@ abbrev pub advanceRefusal : List ℕ → List ℕ → List ℕ → List ℕ → 
 advanceRefusal image samples next reply =
     refuse restoreRefusal image unless restoreRefusal image ≡ᵇ 0 then
     refuse 12 unless length samples % 2 ≡ᵇ 0 then
-    refuse 7 unless imageLength ≤ᵇ length next then
+    refuse 7 unless not (tooShort next) then
     refuse 13 unless replyLength ≤ᵇ length reply then 0
 
 -- taken, written and why, and the reply's further bytes as they were

@@ -79,7 +79,7 @@ module _ (st : State) (valid : ValidState st) where
   gatherer-is : gathererIn saved ≡ gathererRow (st .gatherer)
   gatherer-is =
       ap (numbersIn gathererWidths) (sections .gatherer-part)
-      ∙ numbersIn-row gathererWidths (gathererRow (st .gatherer)) (gatherer-fits (st .settings .samples) (st .gatherer) (valid .settings-valid .samples-most) (valid .gatherer-valid))
+      ∙ numbersIn-row gathererWidths (gathererRow (st .gatherer)) (gatherer-fits (st .settings .samples) (st .gatherer) (valid .settings-valid .samples-valid .1) (valid .gatherer-valid))
 
   values-are : valuesIn saved ≡ v ∷ st .window
   values-are = ap (numbersIn valuesWidths) (sections .values-part) ∙ numbersIn-row valuesWidths (v ∷ st .window) (values-fit n v (st .window) (valid .count-le) (valid .window-valid))

@@ -1,6 +1,8 @@
 -- A rule's test passes exactly where the rule holds.
 use mathlib.Core.Path.{_≡_, refl, sym, _∙_}
-use mathlib.Core.Bool.{Bool, true, false, not, true≢false, Bool·beq as iff}
+use mathlib.Core.Logic.{_⊎_}
+use mathlib.Core.Logic._⊎_.{inl, inr}
+use mathlib.Core.Bool.{Bool, true, false, not, _||_, true≢false, Bool·beq as iff}
 use mathlib.Core.List.{List, [], _∷_}
 use Prim.Native.Nat.{ℕ, zero, suc, _≤_}
 use native.Mathlib.Omega.{arith}
@@ -9,7 +11,7 @@ use borrow.Author.Tests.{eqb-true, eq-eqb, leb-true, le-leb, ltb-true, lt-ltb, n
 use Rattle.numbers.specs.Notation.{_≤ᵇ_, _≡ᵇ_, all}
 use Rattle.numbers.specs.NotationLaws.{and-true, and-left, and-right, implied, imply}
 use Rattle.numbers.specs.Rules.{Rule, passes, Holds}
-use Rattle.numbers.specs.Rules.Rule.{_≤ʳ_, _<ʳ_, _≡ʳ_, allUpTo, allZero, _and_, _implies_, _exactly-when_}
+use Rattle.numbers.specs.Rules.Rule.{_≤ʳ_, _<ʳ_, _≡ʳ_, allUpTo, allZero, _and_, _or_, _implies_, _exactly-when_}
 
 -- every number of a list
 all-at : (b : ℕ) (l : List ℕ) → all (_≤ᵇ b) l ≡ true → (i : ℕ) → getD l i 0 ≤ b
@@ -47,6 +49,16 @@ iff-both true false f g = f refl
 iff-both false true f g = g refl
 iff-both false false f g = refl
 
+-- one test or the other
+one : {A B : Type 0} (a b : Bool) → (a ≡ true → A) → (b ≡ true → B) → (a || b) ≡ true → A ⊎ B
+one true b f g e = inl (f refl)
+one false b f g e = inr (g e)
+
+some : {A B : Type 0} (a b : Bool) → (A → a ≡ true) → (B → b ≡ true) → A ⊎ B → (a || b) ≡ true
+some true b f g h = refl
+some false b f g (inl x) = absurd (true≢false (sym (f x)))
+some false b f g (inr y) = g y
+
 -- a rule both ways
 record Agree (r : Rule) : Type 0 where
   down : passes r ≡ true → Holds r
@@ -62,6 +74,7 @@ agree (p and q) = record {
   down = λ e. (agree p .down (and-left (passes p) (passes q) e), agree q .down (and-right (passes p) (passes q) e));
   up = λ h. and-true (agree p .up (h .0)) (agree q .up (h .1));
 }
+agree (p or q) = record { down = one (passes p) (passes q) (agree p .down) (agree q .down); up = some (passes p) (passes q) (agree p .up) (agree q .up) }
 agree (p implies q) = record {
   down = λ e h. agree q .down (implied (passes p) (passes q) e (agree p .up h));
   up = λ f. imply (passes p) (passes q) (λ e. agree q .up (f (agree p .down e)));

@@ -57,9 +57,13 @@ change = repeated (150 * 8) 100 ++ repeated (103 * 8) 96
 abbrev pub restless : List ℤ
 restless = repeated (150 * 8) 100 ++ (repeated (51 * 8) 94 ++ repeated (52 * 8) 98)
 
--- 89 until a dip stands, then x
-abbrev pub dipThen : ℕ → List ℤ
-dipThen x = repeated 16 89 ++ repeated 16 x
+-- two half-cycles of x, then two of y
+abbrev pub pairThen : ℕ → ℕ → List ℤ
+pairThen x y = repeated 16 x ++ repeated 16 y
+
+-- never steady: 30 half-cycles of 80, then 51 of 94 and 52 of 98, which in the end are within T of their mean, but not within T − H
+abbrev pub unsettled : List ℤ
+unsettled = repeated (30 * 8) 80 ++ (repeated (51 * 8) 94 ++ repeated (52 * 8) 98)
 
 -- 150 half-cycles of 100, two of 80 and three samples more: a change in progress since value 150, and a dip since 151
 abbrev pub changing : List ℤ
@@ -79,15 +83,21 @@ changingImage =
 abbrev pub changed : ℕ → ℕ → ℕ → List ℕ
 changed offset w x = sets changingImage offset (bytesOf w x)
 
+-- that image with another T, and H 0
+abbrev pub withoutH : ℕ → List ℕ
+withoutH t = sets (changed 44 4 t) 48 (bytesOf 4 0)
+
 abbrev pub refusals : List (List ℕ) → List ℕ
 refusals images = map restoreRefusal images
 
--- the settings: M 7, F 51, U 15, T 601, H 300, I 0, W 20,001, I + G above D, D + 2 × G at W; and the nearest that are accepted
+-- the settings: M 7 and 257, F 51, U 15 and 524,289, T 49 and 601, H 300, I 0, W 20,001, I + G above D, D + 2 × G at W; and the nearest that are accepted
 abbrev pub settingsOut : List (List ℕ)
-settingsOut = changed 32 4 7 ∷ changed 36 4 51 ∷ changed 40 4 15 ∷ changed 44 4 601 ∷ changed 48 4 300 ∷ changed 52 4 0 ∷ changed 60 4 20001 ∷ changed 52 4 8801 ∷ changed 60 4 9400 ∷ []
+settingsOut =
+    changed 32 4 7 ∷ changed 32 4 257 ∷ changed 36 4 51 ∷ changed 40 4 15 ∷ changed 40 4 524289 ∷ withoutH 49 ∷ changed 44 4 601 ∷ changed 48 4 300 ∷ changed 52 4 0 ∷ changed 60 4 20001 ∷ changed 52 4 8801 ∷ changed 60 4 9400 ∷ []
 
 abbrev pub settingsIn : List (List ℕ)
-settingsIn = changed 32 4 9 ∷ changed 36 4 60 ∷ changed 40 4 16 ∷ changed 44 4 600 ∷ changed 48 4 299 ∷ changed 52 4 1 ∷ changed 60 4 20000 ∷ changed 52 4 8800 ∷ changed 60 4 9401 ∷ []
+settingsIn =
+    changed 32 4 8 ∷ changed 32 4 256 ∷ changed 36 4 60 ∷ changed 40 4 16 ∷ changed 40 4 524288 ∷ withoutH 50 ∷ changed 44 4 600 ∷ changed 48 4 299 ∷ changed 52 4 1 ∷ changed 60 4 20000 ∷ changed 52 4 8800 ∷ changed 60 4 9401 ∷ []
 
 -- the bodies: count, sum, last sum, mark, mark 0 with a last sum, mark 0 with V; a value, an unused place; phase 4, phase 0 with V ≥ N, a change outside phase 3; k at N, k above V,
 -- A(k − 1), a difference with V < k + N, a stand before k, one after V; a start above V, a magnitude, a magnitude of none
@@ -124,11 +134,21 @@ pub record BenchReadings : Type 0 where
   pub all-89 : values q (repeated 16 89) ≡ 1424 ∷ []
   pub dip-at-89 : readings q (values q (repeated 16 89)) .dip ≡ true
   -- in a dip, 1472 ends it, 1456 doesn't
-  pub then-92 : values q (dipThen 92) ≡ 1472 ∷ 1448 ∷ 1424 ∷ []
-  pub ended-at-92 : recordsOf q (dipThen 92) ≡ record { kind = 1; start = 1; duration = 2; first = 1424; second = 0 } ∷ []
-  pub then-91 : values q (dipThen 91) ≡ 1456 ∷ 1440 ∷ 1424 ∷ []
-  pub stands-at-91 : recordsOf q (dipThen 91) ≡ []
-  pub dip-at-91 : readings q (values q (dipThen 91)) .dip ≡ true
+  pub then-92 : values q (pairThen 89 92) ≡ 1472 ∷ 1448 ∷ 1424 ∷ []
+  pub ended-at-92 : recordsOf q (pairThen 89 92) ≡ record { kind = 1; start = 1; duration = 2; first = 1424; second = 0 } ∷ []
+  pub then-91 : values q (pairThen 89 91) ≡ 1456 ∷ 1440 ∷ 1424 ∷ []
+  pub stands-at-91 : recordsOf q (pairThen 89 91) ≡ []
+  pub dip-at-91 : readings q (values q (pairThen 89 91)) .dip ≡ true
+  -- all 110, r = 1760: no swell; 111: swell; 1728 ends it, 1744 doesn't
+  pub no-swell-at-110 : readings q (values q (repeated 16 110)) .swell ≡ false
+  pub swell-at-111 : readings q (values q (repeated 16 111)) .swell ≡ true
+  pub swell-ended-at-108 : recordsOf q (pairThen 111 108) ≡ record { kind = 2; start = 1; duration = 2; first = 1776; second = 0 } ∷ []
+  pub swell-at-109 : readings q (values q (pairThen 111 109)) .swell ≡ true
+  -- all 5, r = 80: no interruption; 4: interruption; 112 ends it, 96 doesn't
+  pub no-interruption-at-5 : readings q (values q (repeated 16 5)) .interruption ≡ false
+  pub interruption-at-4 : readings q (values q (repeated 16 4)) .interruption ≡ true
+  pub interruption-ended-at-7 : recordsOf q (pairThen 4 7) ≡ record { kind = 3; start = 1; duration = 2; first = 64; second = 0 } ∷ []
+  pub interruption-at-6 : readings q (values q (pairThen 4 6)) .interruption ≡ true
   -- 150 half-cycles of 100, then 103 of 96: due at value 252, RVC 151, 1, 6368, 6368; with T 393 still an event at 151; with T 394 none
   pub change-count : length (values q change) ≡ 252
   pub change-due : recordsOf q change ≡ record { kind = 4; start = 151; duration = 1; first = 6368; second = 6368 } ∷ []
@@ -138,6 +158,8 @@ pub record BenchReadings : Type 0 where
   -- in a change T − H is in force: a voltage that is calm under T only does not end it, unless H is 0
   pub restless-goes-on : recordsOf q restless ≡ []
   pub restless-without-H : recordsOf (qWith 8 300 0) restless ≡ record { kind = 4; start = 151; duration = 1; first = 9552; second = 6256 } ∷ []
+  -- a voltage that was never steady is steady once it is calm under T
+  pub unsettled-then-steady : readings q (values q unsettled) .phase ≡ 2
   -- the program's samples: dip 3, 3, 800, 0 and V 7, and the record's bytes; fed with no record room: 55 taken, why 1
   pub program-record : recordsOf q program ≡ record { kind = 1; start = 3; duration = 3; first = 800; second = 0 } ∷ []
   pub program-bytes : recordBytes (recordsOf q program) ≡ 1 ∷ 0 ∷ 0 ∷ 0 ∷ 3 ∷ 0 ∷ 0 ∷ 0 ∷ 3 ∷ 0 ∷ 0 ∷ 0 ∷ 32 ∷ 3 ∷ 0 ∷ 0 ∷ 0 ∷ 0 ∷ 0 ∷ 0 ∷ []
@@ -153,7 +175,7 @@ pub record BenchReadings : Type 0 where
   pub changing-accepted : restoreRefusal changingImage ≡ 0
   pub lengths-refused : refusals ([] ∷ take 619 changingImage ∷ (changingImage ++ (0 ∷ [])) ∷ []) ≡ 8 ∷ 8 ∷ 8 ∷ []
   pub table-refused : refusals (changed 0 4 2 ∷ changed 4 2 33 ∷ changed 30 2 45 ∷ []) ≡ 9 ∷ 9 ∷ 9 ∷ []
-  pub settings-refused : refusals settingsOut ≡ replicate 9 10
-  pub settings-accepted : refusals settingsIn ≡ replicate 9 0
+  pub settings-refused : refusals settingsOut ≡ replicate 12 10
+  pub settings-accepted : refusals settingsIn ≡ replicate 12 0
   pub bodies-refused : refusals bodiesOut ≡ replicate 20 11
   pub bodies-accepted : refusals bodiesIn ≡ replicate 15 0

@@ -127,7 +127,7 @@ pub record Joins (t : Scaled) (n : ℕ) (j : Joining) (p : Phase) : Type 0 where
   pub most : n ≤ 120
   pub leaving-le : j .leaving ≤ 524288
   pub after-le : j .after ≤ 62914560
-  pub limit-le : limitOf t p ≤ 3774873
+  pub limit-le : limitOf t p ≤ 62914560
 
 -- a change and a phase in the numbers of body 4
 abbrev pub changeRow : Change → List ℕ

@@ -30,14 +30,15 @@ limitOf-is s Unsettled = refl
 limitOf-is s Steady = refl
 limitOf-is s (Changing c) = refl
 
-limitOf-le : (s : Settings) (p : Phase) → ValidSettings s → limitOf (scaledOf s) p ≤ 3774873
-limitOf-le s p valid = rw (limitOf-is s p) (omega (arith, mul-le-mul (mul-le-mul (most p) (windowLength-most s)) (valid .declared-most)))
+-- no limit is above the whole voltage, 10,000 hundredths of a percent
+limitOf-le : (s : Settings) (p : Phase) → ValidSettings s → limitOf (scaledOf s) p ≤ 62914560
+limitOf-le s p valid = rw (limitOf-is s p) (omega (arith, mul-le-mul (mul-le-mul (most p) (windowLength-most s)) (valid .declared-valid .1)))
   where
-    most : (p : Phase) → limitIn s p ≤ 600
-    most Filling = valid .limit-most
-    most Unsettled = valid .limit-most
-    most Steady = valid .limit-most
-    most (Changing c) = omega (arith, valid .limit-most)
+    most : (p : Phase) → limitIn s p ≤ 10000
+    most Filling = omega (arith, valid .limit-valid .1 .0)
+    most Unsettled = omega (arith, valid .limit-valid .1 .0)
+    most Steady = omega (arith, valid .limit-valid .1 .0)
+    most (Changing c) = omega (arith, valid .limit-valid .1 .0)
 
 module _ (s : Settings) (v : ℕ) (w : List ℕ) (r : ℕ) (stands : Bool) (window : ValidWindow (windowLength s) v w) where
   abbrev n : ℕ

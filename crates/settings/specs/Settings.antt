@@ -1,11 +1,11 @@
 -- 01, "Settings": nine numbers of 4 bytes, their ranges, and the refusals of start.
-use mathlib.Core.Path.{_≡_}
-use mathlib.Core.Bool.{Bool, _&&_, _||_, true}
 use mathlib.Core.List.{List, [], _∷_}
-use Prim.Native.Nat.{ℕ, _+_, _-_, _*_, _/_, _≤_, _<_}
+use Prim.Native.Nat.{ℕ, _+_, _-_, _*_, _/_}
 use lib.ListN.{length, getD, replicate}
 use Rattle.octets.specs.Bytes.{row, numbersIn, total}
-use Rattle.numbers.specs.Notation.{_≤ᵇ_, _<ᵇ_, _≡ᵇ_, if_then_else_, refuse_unless_then_}
+use Rattle.numbers.specs.Notation.{_≡ᵇ_, if_then_else_, refuse_unless_then_}
+use Rattle.numbers.specs.Rules.{Rule, passes, Holds}
+use Rattle.numbers.specs.Rules.Rule.{_≤ʳ_, _<ʳ_, _≡ʳ_, _and_, _or_}
 use Rattle.numbers.specs.Answers.{Answered, answered}
 use Rattle.numbers.specs.Answers.Answered.{accepted, refused}
 use Rattle.settings.specs.declared.Settings.{Settings}
@@ -49,37 +49,37 @@ abbrev pub settingsOf : List ℕ → Settings
 settingsOf b = settingsFrom (numbersIn settingsWidths b)
 
 -- M is 8 to 256
-unfoldable pub samplesGood : Settings → Bool
-samplesGood s = 8 ≤ᵇ s .samples && s .samples ≤ᵇ 256
+abbrev pub samplesRule : Settings → Rule
+samplesRule s = 8 ≤ʳ s .samples and s .samples ≤ʳ 256
 
 -- F is 50 or 60
-unfoldable pub frequencyGood : Settings → Bool
-frequencyGood s = s .frequency ≡ᵇ 50 || s .frequency ≡ᵇ 60
+abbrev pub frequencyRule : Settings → Rule
+frequencyRule s = s .frequency ≡ʳ 50 or s .frequency ≡ʳ 60
 
 -- U is 16 to 524,288
-unfoldable pub declaredGood : Settings → Bool
-declaredGood s = 16 ≤ᵇ s .declared && s .declared ≤ᵇ 524288
+abbrev pub declaredRule : Settings → Rule
+declaredRule s = 16 ≤ʳ s .declared and s .declared ≤ʳ 524288
 
 -- T is 50 to 600, and H is below T
-unfoldable pub limitGood : Settings → Bool
-limitGood s = 50 ≤ᵇ s .limit && (s .limit ≤ᵇ 600 && s .reduction <ᵇ s .limit)
+abbrev pub limitRule : Settings → Rule
+limitRule s = 50 ≤ʳ s .limit and s .limit ≤ʳ 600 and s .reduction <ʳ s .limit
 
 -- I, D, W and G are each at most 20,000, and I at least 1
-unfoldable pub levelsGood : Settings → Bool
-levelsGood s = 1 ≤ᵇ s .interruption && (s .interruption ≤ᵇ 20000 && (s .dip ≤ᵇ 20000 && (s .swell ≤ᵇ 20000 && s .hysteresis ≤ᵇ 20000)))
+abbrev pub levelsRule : Settings → Rule
+levelsRule s = 1 ≤ʳ s .interruption and s .interruption ≤ʳ 20000 and s .dip ≤ʳ 20000 and s .swell ≤ʳ 20000 and s .hysteresis ≤ʳ 20000
 
 -- I + G ≤ D, and D + 2 × G < W
-unfoldable pub orderGood : Settings → Bool
-orderGood s = s .interruption + s .hysteresis ≤ᵇ s .dip && s .dip + 2 * s .hysteresis <ᵇ s .swell
+abbrev pub orderRule : Settings → Rule
+orderRule s = s .interruption + s .hysteresis ≤ʳ s .dip and s .dip + 2 * s .hysteresis <ʳ s .swell
 
 -- start's refusals 2 to 6: the lowest number that applies, 0 where none does
 unfoldable pub settingsRefusal : Settings → ℕ
 settingsRefusal s =
-    refuse 2 unless samplesGood s then
-    refuse 3 unless frequencyGood s then
-    refuse 4 unless declaredGood s then
-    refuse 5 unless limitGood s then
-    refuse 6 unless levelsGood s && orderGood s then
+    refuse 2 unless passes (samplesRule s) then
+    refuse 3 unless passes (frequencyRule s) then
+    refuse 4 unless passes (declaredRule s) then
+    refuse 5 unless passes (limitRule s) then
+    refuse 6 unless passes (levelsRule s and orderRule s) then
     0
 
 -- with the length first
@@ -107,18 +107,9 @@ scaledOf s = record {
 
 -- what the refusals 2 to 6 leave
 pub record ValidSettings (s : Settings) : Type 0 where
-  pub samples-least : 8 ≤ s .samples
-  pub samples-most : s .samples ≤ 256
-  pub frequency-known : (s .frequency ≡ᵇ 50 || s .frequency ≡ᵇ 60) ≡ true
-  pub declared-least : 16 ≤ s .declared
-  pub declared-most : s .declared ≤ 524288
-  pub limit-least : 50 ≤ s .limit
-  pub limit-most : s .limit ≤ 600
-  pub reduction-less : s .reduction < s .limit
-  pub interruption-least : 1 ≤ s .interruption
-  pub interruption-most : s .interruption ≤ 20000
-  pub dip-most : s .dip ≤ 20000
-  pub swell-most : s .swell ≤ 20000
-  pub hysteresis-most : s .hysteresis ≤ 20000
-  pub dip-above : s .interruption + s .hysteresis ≤ s .dip
-  pub swell-above : s .dip + 2 * s .hysteresis < s .swell
+  pub samples-valid : Holds (samplesRule s)
+  pub frequency-valid : Holds (frequencyRule s)
+  pub declared-valid : Holds (declaredRule s)
+  pub limit-valid : Holds (limitRule s)
+  pub levels-valid : Holds (levelsRule s)
+  pub order-valid : Holds (orderRule s)

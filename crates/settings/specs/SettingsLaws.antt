@@ -1,22 +1,26 @@
 -- Settings that start accepts, as facts; settings to bytes and back, both ways; and what an answer tells.
 use mathlib.Core.Path.{_≡_, refl, sym, _∙_, ap, ap₂}
 use mathlib.Core.Logic.{_≢_}
-use mathlib.Core.Bool.{Bool, true, false, _&&_, _||_}
+use mathlib.Core.Logic._⊎_.{inl, inr}
+use mathlib.Core.Bool.{Bool, true, false}
 use mathlib.Core.List.{List}
 use Prim.Native.Nat.{ℕ, _+_, _*_, _≤_, _<_}
 use native.Mathlib.Omega.{arith}
 use lib.ListN.{length}
-use borrow.Author.Tests.{eqb-true, eq-eqb, leb-true, le-leb, ltb-true, lt-ltb}
+use borrow.Author.Tests.{eqb-true, eq-eqb}
 use Rattle.octets.specs.Bytes.{Bytes}
 use Rattle.octets.specs.RowLaws.{Fit, length-row, numbersIn-row, row-numbersIn}
-use Rattle.numbers.specs.Notation.{_≤ᵇ_, _<ᵇ_, _≡ᵇ_, if_then_else_}
-use Rattle.numbers.specs.NotationLaws.{and-true, and-left, and-right, refuse-passes, refuse-none}
+use Rattle.numbers.specs.Notation.{_≡ᵇ_, if_then_else_}
+use Rattle.numbers.specs.NotationLaws.{refuse-passes, refuse-none}
+use Rattle.numbers.specs.Rules.{passes, Holds}
+use Rattle.numbers.specs.Rules.Rule.{_and_}
+use Rattle.numbers.specs.RulesLaws.{holds, passed}
 use Rattle.numbers.specs.Answers.{answered}
 use Rattle.numbers.specs.Answers.Answered.{accepted, refused}
 use Rattle.numbers.specs.AnswersLaws.{accepted-is, refused-is}
 use Rattle.settings.specs.Settings.{windowLength, numbersOf, settingsFrom, settingsWidths, settingsLength, settingsBytes, settingsOf, ValidSettings}
 use Rattle.settings.specs.Settings.{settingsRefusal, startRefusal, settingsRead}
-use Rattle.settings.specs.Settings.{samplesGood, frequencyGood, declaredGood, limitGood, levelsGood, orderGood}
+use Rattle.settings.specs.Settings.{samplesRule, frequencyRule, declaredRule, limitRule, levelsRule, orderRule}
 use Rattle.settings.specs.declared.Settings.{Settings}
 
 -- the window has 100 or 120 values
@@ -35,63 +39,39 @@ windowLength-most s = go (s .frequency ≡ᵇ 50)
     go false = omega arith
 
 module _ (s : Settings) where
-  abbrev levels : Bool
-  levels = s .interruption ≤ᵇ 20000 && (s .dip ≤ᵇ 20000 && (s .swell ≤ᵇ 20000 && s .hysteresis ≤ᵇ 20000))
-
-  abbrev upper : Bool
-  upper = s .dip ≤ᵇ 20000 && (s .swell ≤ᵇ 20000 && s .hysteresis ≤ᵇ 20000)
-
   pub refusal-valid : settingsRefusal s ≡ 0 → ValidSettings s
-  unfolding settingsRefusal samplesGood frequencyGood declaredGood limitGood levelsGood orderGood
+  unfolding settingsRefusal
   refusal-valid e =
-      let r2 = refuse-none 2 (samplesGood s) _ (omega arith) e in
-      let r3 = refuse-none 3 (frequencyGood s) _ (omega arith) (r2 .1) in
-      let r4 = refuse-none 4 (declaredGood s) _ (omega arith) (r3 .1) in
-      let r5 = refuse-none 5 (limitGood s) _ (omega arith) (r4 .1) in
-      let r6 = refuse-none 6 (levelsGood s && orderGood s) _ (omega arith) (r5 .1) in
-      let in-range = and-left (levelsGood s) (orderGood s) (r6 .0) in
-      let in-order = and-right (levelsGood s) (orderGood s) (r6 .0) in
-      let below = and-right (50 ≤ᵇ s .limit) (s .limit ≤ᵇ 600 && s .reduction <ᵇ s .limit) (r5 .0) in
-      let most = and-right (1 ≤ᵇ s .interruption) levels in-range in
-      let uppers = and-right (s .interruption ≤ᵇ 20000) upper most in
-      let last = and-right (s .dip ≤ᵇ 20000) (s .swell ≤ᵇ 20000 && s .hysteresis ≤ᵇ 20000) uppers in
+      let r2 = refuse-none 2 (passes (samplesRule s)) _ (omega arith) e in
+      let r3 = refuse-none 3 (passes (frequencyRule s)) _ (omega arith) (r2 .1) in
+      let r4 = refuse-none 4 (passes (declaredRule s)) _ (omega arith) (r3 .1) in
+      let r5 = refuse-none 5 (passes (limitRule s)) _ (omega arith) (r4 .1) in
+      let r6 = refuse-none 6 (passes (levelsRule s and orderRule s)) _ (omega arith) (r5 .1) in
+      let levels = holds (levelsRule s and orderRule s) (r6 .0) in
       record {
-        samples-least = leb-true _ _ (and-left (8 ≤ᵇ s .samples) (s .samples ≤ᵇ 256) (r2 .0));
-        samples-most = leb-true _ _ (and-right (8 ≤ᵇ s .samples) (s .samples ≤ᵇ 256) (r2 .0));
-        frequency-known = r3 .0;
-        declared-least = leb-true _ _ (and-left (16 ≤ᵇ s .declared) (s .declared ≤ᵇ 524288) (r4 .0));
-        declared-most = leb-true _ _ (and-right (16 ≤ᵇ s .declared) (s .declared ≤ᵇ 524288) (r4 .0));
-        limit-least = leb-true _ _ (and-left (50 ≤ᵇ s .limit) (s .limit ≤ᵇ 600 && s .reduction <ᵇ s .limit) (r5 .0));
-        limit-most = leb-true _ _ (and-left (s .limit ≤ᵇ 600) (s .reduction <ᵇ s .limit) below);
-        reduction-less = ltb-true _ _ (and-right (s .limit ≤ᵇ 600) (s .reduction <ᵇ s .limit) below);
-        interruption-least = leb-true _ _ (and-left (1 ≤ᵇ s .interruption) levels in-range);
-        interruption-most = leb-true _ _ (and-left (s .interruption ≤ᵇ 20000) upper most);
-        dip-most = leb-true _ _ (and-left (s .dip ≤ᵇ 20000) (s .swell ≤ᵇ 20000 && s .hysteresis ≤ᵇ 20000) uppers);
-        swell-most = leb-true _ _ (and-left (s .swell ≤ᵇ 20000) (s .hysteresis ≤ᵇ 20000) last);
-        hysteresis-most = leb-true _ _ (and-right (s .swell ≤ᵇ 20000) (s .hysteresis ≤ᵇ 20000) last);
-        dip-above = leb-true _ _ (and-left (s .interruption + s .hysteresis ≤ᵇ s .dip) (s .dip + 2 * s .hysteresis <ᵇ s .swell) in-order);
-        swell-above = ltb-true _ _ (and-right (s .interruption + s .hysteresis ≤ᵇ s .dip) (s .dip + 2 * s .hysteresis <ᵇ s .swell) in-order);
+        samples-valid = holds (samplesRule s) (r2 .0);
+        frequency-valid = holds (frequencyRule s) (r3 .0);
+        declared-valid = holds (declaredRule s) (r4 .0);
+        limit-valid = holds (limitRule s) (r5 .0);
+        levels-valid = levels .0;
+        order-valid = levels .1;
       }
 
   pub valid-refusal : ValidSettings s → settingsRefusal s ≡ 0
-  unfolding settingsRefusal samplesGood frequencyGood declaredGood limitGood levelsGood orderGood
+  unfolding settingsRefusal
   valid-refusal v =
-      let levels-are : levelsGood s ≡ true =
-      and-true (le-leb _ _ (v .interruption-least)) (and-true (le-leb _ _ (v .interruption-most))
-      (and-true (le-leb _ _ (v .dip-most)) (and-true (le-leb _ _ (v .swell-most)) (le-leb _ _ (v .hysteresis-most))))) in
-      let order-is : orderGood s ≡ true = and-true (le-leb _ _ (v .dip-above)) (lt-ltb _ _ (v .swell-above)) in
-      refuse-passes 2 _ (and-true (le-leb _ _ (v .samples-least)) (le-leb _ _ (v .samples-most)))
-      ∙ refuse-passes 3 _ (v .frequency-known)
-      ∙ refuse-passes 4 _ (and-true (le-leb _ _ (v .declared-least)) (le-leb _ _ (v .declared-most)))
-      ∙ refuse-passes 5 _ (and-true (le-leb _ _ (v .limit-least)) (and-true (le-leb _ _ (v .limit-most)) (lt-ltb _ _ (v .reduction-less))))
-      ∙ refuse-passes 6 _ (and-true levels-are order-is)
+      refuse-passes 2 _ (passed (samplesRule s) (v .samples-valid))
+      ∙ refuse-passes 3 _ (passed (frequencyRule s) (v .frequency-valid))
+      ∙ refuse-passes 4 _ (passed (declaredRule s) (v .declared-valid))
+      ∙ refuse-passes 5 _ (passed (limitRule s) (v .limit-valid))
+      ∙ refuse-passes 6 _ (passed (levelsRule s and orderRule s) (v .levels-valid, v .order-valid))
 
   pub frequency-most : ValidSettings s → s .frequency ≤ 60
-  frequency-most v = go (s .frequency ≡ᵇ 50) refl (v .frequency-known)
+  frequency-most v = go (v .frequency-valid)
     where
-      go : (b : Bool) → (s .frequency ≡ᵇ 50) ≡ b → (b || s .frequency ≡ᵇ 60) ≡ true → s .frequency ≤ 60
-      go true p q = omega (arith, eqb-true (s .frequency) 50 p)
-      go false p q = omega (arith, eqb-true (s .frequency) 60 q)
+      go : Holds (frequencyRule s) → s .frequency ≤ 60
+      go (inl p) = omega arith
+      go (inr p) = omega arith
 
   -- each of the nine numbers fits 4 bytes
   pub valid-fit : ValidSettings s → Fit settingsWidths (numbersOf s)

@@ -2,9 +2,10 @@
 ghost use mathlib.Core.Path.{_≡_};
 ghost use Prim.Native.Nat.{_*_, _≤_, _/_};
 ghost use lib.ListN.{length};
+ghost use Rattle.numbers.specs.Rules.{passes, Holds};
 ghost use Rattle.settings.specs.Settings.{windowLength, settingsLength, settingsBytes, settingsOf, settingsRefusal, settingsRead, settingsTold};
 ghost use Rattle.settings.specs.Settings.{scaledOf, ValidSettings};
-ghost use Rattle.settings.specs.Settings.{samplesGood, frequencyGood, declaredGood, limitGood, levelsGood, orderGood};
+ghost use Rattle.settings.specs.Settings.{samplesRule, frequencyRule, declaredRule, limitRule, levelsRule, orderRule};
 
 // In 01's order: M, F, U, T, H, I, D, W, G.
 pub struct Settings {
@@ -131,9 +132,8 @@ impl Settings {
         }
     }
 
-    // Two levels, scaled. A level is at most 20,000, so one with the hysteresis added is at most 40,000.
+    // Two levels, scaled: 8 bytes hold the product of two numbers of 4.
     fn threshold(self, begins: u32, ends: u32) -> Threshold
-        requires { ⌜ (self .declared ≤ 524288) × (begins ≤ 40000) × (ends ≤ 40000) ⌝ }
         ensures { λ r. ⌜ (r .begins ≡ begins * self .declared) × (r .ends ≡ ends * self .declared) ⌝ }
     {
         let declared = self.declared as u64;
@@ -145,7 +145,7 @@ impl Settings {
 
     // A limit of a rapid voltage change, scaled.
     fn scaled_limit(self, limit: u32) -> u64
-        requires { ⌜ (self .declared ≤ 524288) × (limit ≤ 600) ⌝ }
+        requires { ⌜ Holds (declaredRule self) ⌝ }
         ensures { λ r. ⌜ r ≡ limit * windowLength self * self .declared / 10000 ⌝ }
     {
         limit as u64 * self.window_length() * self.declared as u64 / 10_000
@@ -197,25 +197,25 @@ impl Settings {
     }
 
     fn samples_good(self) -> bool
-        ensures { λ r. ⌜ r ≡ samplesGood self ⌝ }
+        ensures { λ r. ⌜ r ≡ passes (samplesRule self) ⌝ }
     {
         Settings::SAMPLES_LEAST <= self.samples && self.samples <= Settings::SAMPLES_MOST
     }
 
     fn frequency_good(self) -> bool
-        ensures { λ r. ⌜ r ≡ frequencyGood self ⌝ }
+        ensures { λ r. ⌜ r ≡ passes (frequencyRule self) ⌝ }
     {
         self.frequency == Settings::FREQUENCY_50 || self.frequency == Settings::FREQUENCY_60
     }
 
     fn declared_good(self) -> bool
-        ensures { λ r. ⌜ r ≡ declaredGood self ⌝ }
+        ensures { λ r. ⌜ r ≡ passes (declaredRule self) ⌝ }
     {
         Settings::DECLARED_LEAST <= self.declared && self.declared <= Settings::DECLARED_MOST
     }
 
     fn limit_good(self) -> bool
-        ensures { λ r. ⌜ r ≡ limitGood self ⌝ }
+        ensures { λ r. ⌜ r ≡ passes (limitRule self) ⌝ }
     {
         if self.limit < Settings::LIMIT_LEAST {
             return false;
@@ -227,7 +227,7 @@ impl Settings {
     }
 
     fn levels_good(self) -> bool
-        ensures { λ r. ⌜ r ≡ levelsGood self ⌝ }
+        ensures { λ r. ⌜ r ≡ passes (levelsRule self) ⌝ }
     {
         if self.interruption < Settings::INTERRUPTION_LEAST {
             return false;
@@ -246,7 +246,7 @@ impl Settings {
 
     // The sums are taken in 8 bytes, so that none wraps.
     fn order_good(self) -> bool
-        ensures { λ r. ⌜ r ≡ orderGood self ⌝ }
+        ensures { λ r. ⌜ r ≡ passes (orderRule self) ⌝ }
     {
         let hysteresis = self.hysteresis as u64;
         let dip = self.dip as u64;

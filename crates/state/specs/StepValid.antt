@@ -91,7 +91,7 @@ history-small s rec are some (suc i) (suc j) = history-small s rec are some i j
 
 pub stateOf-valid : (s : Settings) (rec : List ℤ) → ValidSettings s → Recording s rec → ValidState (stateOf s rec)
 stateOf-valid s rec valid recorded =
-    let some : 0 < s .samples = omega (arith, valid .samples-least) in
+    let some : 0 < s .samples = omega (arith, valid .samples-valid .0) in
     let small = history-small s rec (recorded .samples) some (valueCount s rec) in
     let l = length-history s rec (valueCount s rec) in
     record {
@@ -108,7 +108,7 @@ recording-none s = record { samples = tt; within = omega (arith, halves-none s) 
 
 pub fresh-valid : (s : Settings) → ValidSettings s → ValidState (fresh s)
 fresh-valid s valid =
-    let some : 0 < s .samples = omega (arith, valid .samples-least) in
+    let some : 0 < s .samples = omega (arith, valid .samples-valid .0) in
     rw (fresh-is s some) (stateOf-valid s [] valid (recording-none s))
 
 -- the records due with a part are four at most

@@ -68,7 +68,7 @@ pub fn all_between(part: &[u32], lowest: u32, highest: u32) -> bool
 // Whether a window, the newest value and those of `part`, is calm: each value, times the window's length, lies within `limit` of the window's sum. In a
 // change the newest mostly decides. For the others the test is turned into a range of values once, so that none is multiplied.
 pub fn calm(part: &[u32], newest: u32, window_length: u64, sum: u64, limit: u64) -> bool
-    requires { ⌜ (0 < «window_length») × («window_length» ≤ 120) × (sum ≤ 62914560) × (limit ≤ 3774873) ⌝ }
+    requires { ⌜ (0 < «window_length») × («window_length» ≤ 120) × (sum ≤ 62914560) × (limit ≤ 62914560) ⌝ }
     ensures { λ b. ⌜ b ≡ calmWith «window_length» sum limit (now (part .entry)) newest ⌝ }
 {
     let scaled = window_length * (newest as u64);

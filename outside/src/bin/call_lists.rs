@@ -7,7 +7,7 @@
 
 use outside::arguments::Arguments;
 use outside::call_lists::{files, list, List, Tally};
-use outside::programs::{pieces, printed};
+use outside::programs::{pieces, written};
 use outside::rng::Rng;
 use outside::seen::tell;
 use std::process::exit;
@@ -17,11 +17,10 @@ call_lists --list SEED NUMBER --program PATH
 call_lists --files FOLDER";
 
 /// What differs first between the text that was printed and the list's.
-fn difference(list: &List, printed: &[u8]) -> Option<String> {
-    if printed == list.text.as_bytes() {
+fn difference(list: &List, printed: &str) -> Option<String> {
+    if printed == list.text {
         return None;
     }
-    let printed = String::from_utf8_lossy(printed);
     let mut lines = printed.lines();
     for (j, line) in list.text.lines().enumerate() {
         let other = lines.next().unwrap_or("the end");
@@ -37,8 +36,8 @@ fn run(seed: u64, number: u64, program: &str, seen: &mut Tally) {
     let mut rng = Rng::of_case(seed, number);
     let list = list(&mut rng, seen);
     let pieces = pieces(&mut rng, list.input.len());
-    let text = match printed(program, &list.input, &pieces) {
-        Ok(printed) => difference(&list, &printed),
+    let text = match written(program, &list.input, &pieces) {
+        Ok(text) => difference(&list, &text.printed),
         Err(text) => Some(text),
     };
     if let Some(text) = text {

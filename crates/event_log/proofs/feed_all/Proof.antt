@@ -14,7 +14,7 @@ use Rattle.event_log.proofs.feed_all.Statement.{statement}
 use Rattle.event_log.proofs.feed_all.Tie as tie
 
 abbrev Inv-loop : tie.InvT-loop
-Inv-loop samples records₀ text₀ held₀ at₀ why₀ records text held at why =
+Inv-loop samples records₀ text₀ held₀ at₀ why₀ printed₀ records text held at why printed =
     ValidState (held .state)
     × (at ≤ length samples)
     × (length records ≡ length records₀)
@@ -22,7 +22,7 @@ Inv-loop samples records₀ text₀ held₀ at₀ why₀ records text held at wh
     × (fedAllFrom held₀ samples ≡ rest samples held at why)
 
 abbrev μ-loop : tie.MeasureT-loop
-μ-loop samples records₀ text₀ held₀ at₀ why₀ records text held at why = toFeed samples at why
+μ-loop samples records₀ text₀ held₀ at₀ why₀ printed₀ records text held at why printed = toFeed samples at why
 
 loop-holds : tie.Need-loop-holds Inv-loop μ-loop
 loop-holds c = search needs
@@ -61,11 +61,11 @@ put-lines-requires c κs =
 array-share-prefix-text : tie.Need-array-share-prefix-text Inv-loop μ-loop
 array-share-prefix-text c = search needs
 
-slice-aggregate-write-all : tie.Need-slice-aggregate-write-all Inv-loop μ-loop
-slice-aggregate-write-all c = sym (length-take-le _ _ (search needs))
+slice-aggregate-print : tie.Need-slice-aggregate-print Inv-loop μ-loop
+slice-aggregate-print c = sym (length-take-le _ _ (search needs))
 
-write-all-requires : tie.Need-write-all-requires Inv-loop μ-loop
-write-all-requires c κs = search needs
+print-requires : tie.Need-print-requires Inv-loop μ-loop
+print-requires c κs = search needs
 
 add-at : tie.Need-add-at Inv-loop μ-loop
 add-at c =
@@ -117,8 +117,8 @@ feed-all-spec =
     slice-aggregate-put-lines-2
     put-lines-requires
     array-share-prefix-text
-    slice-aggregate-write-all
-    write-all-requires
+    slice-aggregate-print
+    print-requires
     add-at
     loop-less
     loop-again

@@ -6,11 +6,14 @@ use Rattle.settings.specs.SettingsLaws.{read-accepted}
 use Rattle.event_log.proofs.main.Statement.{statement}
 use Rattle.event_log.proofs.main.Tie as tie
 
-slice-aggregate-read-full : tie.Need-slice-aggregate-read-full
-slice-aggregate-read-full c = search needs
+slice-aggregate-read : tie.Need-slice-aggregate-read
+slice-aggregate-read c = search needs
 
-read-full-requires : tie.Need-read-full-requires
-read-full-requires c κs = search needs
+read-requires : tie.Need-read-requires
+read-requires c κs = search needs
+
+returns : tie.Need-returns
+returns c = search needs
 
 array-share-prefix-bytes : tie.Need-array-share-prefix-bytes
 array-share-prefix-bytes c = search needs
@@ -30,35 +33,32 @@ log-requires c κs = read-accepted _ _ (sym (c .before .before .before .from-byt
 enum-known-number : tie.Need-enum-known-number
 enum-known-number c = search needs
 
-slice-aggregate-print-line : tie.Need-slice-aggregate-print-line
-slice-aggregate-print-line c = search needs
+cast-refuse : tie.Need-cast-refuse
+cast-refuse c = search needs
 
-cast-print-line : tie.Need-cast-print-line
-cast-print-line c = search needs
-
-print-line-requires : tie.Need-print-line-requires
-print-line-requires c κs = search needs
-
-returns : tie.Need-returns
-returns c = search needs
+refuse-requires : tie.Need-refuse-requires
+refuse-requires c κs = search needs
 
 returns-2 : tie.Need-returns-2
 returns-2 c = search needs
+
+returns-3 : tie.Need-returns-3
+returns-3 c = search needs
 
 pub main-spec : {M : Type 1} → statement M
 main-spec =
     tie.close
     (tie.spec
-    slice-aggregate-read-full
-    read-full-requires
+    slice-aggregate-read
+    read-requires
+    returns
     array-share-prefix-bytes
     slice-aggregate-from-bytes
     from-bytes-requires
     enum-known-settings
     log-requires
     enum-known-number
-    slice-aggregate-print-line
-    cast-print-line
-    print-line-requires
-    returns
-    returns-2)
+    cast-refuse
+    refuse-requires
+    returns-2
+    returns-3)

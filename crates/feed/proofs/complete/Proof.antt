@@ -13,7 +13,7 @@ use Rattle.feed.proofs.complete.Tie as tie
 with-half-requires : tie.Need-with-half-requires
 with-half-requires c κs =
     let start = c .before .before in
-    omega (arith, start .pre .valid .gatherer-valid .1 .0, start .pre .part-fits, start .pre .valid .settings-valid .samples-most)
+    omega (arith, start .pre .valid .gatherer-valid .1 .0, start .pre .part-fits, start .pre .valid .settings-valid .samples-valid .1)
 
 returns : tie.Need-returns
 returns c =
@@ -48,8 +48,8 @@ rms-value-requires c κs =
     let start = at-with-half .before .before .before in
     let last-is = ap (λ (g : Gatherer). g .last) (at-with-half .with-half .ensures) in
     let v = start .pre .valid in (
-      omega (arith, v .settings-valid .samples-least),
-      omega (arith, v .settings-valid .samples-most),
+      omega (arith, v .settings-valid .samples-valid .0),
+      omega (arith, v .settings-valid .samples-valid .1),
       v .gatherer-valid .1 .1 .0,
       omega (arith, last-is, v .gatherer-valid .1 .0, v .gatherer-valid .0, start .pre .part-fits),
     )

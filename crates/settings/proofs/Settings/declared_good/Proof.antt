@@ -2,16 +2,13 @@
 use mathlib.Core.Path.{sym, _∙_}
 use borrow.Author.Tests.{le-leb, lt-leb}
 use Rattle.numbers.specs.NotationLaws.{and-fails, and-passes}
-use Rattle.settings.specs.Settings.{declaredGood}
 use Rattle.settings.proofs.Settings.declared_good.Statement.{statement}
 use Rattle.settings.proofs.Settings.declared_good.Tie as tie
 
 returns : tie.Need-returns
-unfolding declaredGood
 returns c = sym (and-passes _ (le-leb _ _ (c .before .if1 .taken)))
 
 returns-2 : tie.Need-returns-2
-unfolding declaredGood
 returns-2 c = let below = lt-leb _ _ (c .if1 .left) in below ∙ sym (and-fails _ below)
 
 pub declared-good-spec : {M : Type 1} → statement M

@@ -2,27 +2,22 @@
 use mathlib.Core.Path.{sym, _∙_}
 use borrow.Author.Tests.{le-leb, lt-leb}
 use Rattle.numbers.specs.NotationLaws.{and-fails, and-passes}
-use Rattle.settings.specs.Settings.{levelsGood}
 use Rattle.settings.proofs.Settings.levels_good.Statement.{statement}
 use Rattle.settings.proofs.Settings.levels_good.Tie as tie
 
 returns : tie.Need-returns
-unfolding levelsGood
 returns c = sym (and-fails _ (lt-leb _ _ (c .if1 .taken)))
 
 returns-2 : tie.Need-returns-2
-unfolding levelsGood
 returns-2 c = sym (and-passes _ (le-leb _ _ (c .before .before .if1 .left)) ∙ and-fails _ (lt-leb _ _ (c .if2 .taken)))
 
 returns-3 : tie.Need-returns-3
-unfolding levelsGood
 returns-3 c =
     let second = c .before .before in
     sym
     (and-passes _ (le-leb _ _ (second .before .before .if1 .left)) ∙ and-passes _ (le-leb _ _ (second .if2 .left)) ∙ and-fails _ (lt-leb _ _ (c .if3 .taken)))
 
 returns-4 : tie.Need-returns-4
-unfolding levelsGood
 returns-4 c =
     let third = c .before .before in
     let second = third .before .before in
@@ -31,7 +26,6 @@ returns-4 c =
     ∙ and-passes _ (le-leb _ _ (third .if3 .left)) ∙ and-fails _ (lt-leb _ _ (c .if4 .taken)))
 
 returns-5 : tie.Need-returns-5
-unfolding levelsGood
 returns-5 c =
     let third = c .before .before .before in
     let second = third .before .before in

@@ -3,7 +3,6 @@ use mathlib.Core.Path.{sym}
 use borrow.Author.Needs.{needs}
 use borrow.Author.Tests.{le-leb, lt-leb}
 use Rattle.numbers.specs.NotationLaws.{and-fails, and-passes}
-use Rattle.settings.specs.Settings.{orderGood}
 use Rattle.settings.proofs.Settings.order_good.Statement.{statement}
 use Rattle.settings.proofs.Settings.order_good.Tie as tie
 
@@ -20,7 +19,6 @@ add-if1 : tie.Need-add-if1
 add-if1 c = search needs
 
 returns : tie.Need-returns
-unfolding orderGood
 returns c = sym (and-fails _ (lt-leb _ _ (c .if1 .taken)))
 
 mul-result : tie.Need-mul-result
@@ -33,7 +31,6 @@ cast-result : tie.Need-cast-result
 cast-result c = search needs
 
 returns-2 : tie.Need-returns-2
-unfolding orderGood
 returns-2 c = sym (and-passes _ (le-leb _ _ (c .before .if1 .left)))
 
 pub order-good-spec : {M : Type 1} → statement M

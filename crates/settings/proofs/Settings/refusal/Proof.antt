@@ -6,7 +6,9 @@ use borrow.Author.Needs.{needs}
 use borrow.Author.Tests.{not-true, not-false}
 use Rattle.numbers.specs.Notation.{refuse_unless_then_}
 use Rattle.numbers.specs.NotationLaws.{and-fails, and-passes, refuse-fails, refuse-passes}
-use Rattle.settings.specs.Settings.{settingsRefusal, frequencyGood, declaredGood, limitGood, levelsGood, orderGood}
+use Rattle.numbers.specs.Rules.{passes}
+use Rattle.numbers.specs.Rules.Rule.{_and_}
+use Rattle.settings.specs.Settings.{settingsRefusal, frequencyRule, declaredRule, limitRule, levelsRule, orderRule}
 use Rattle.settings.specs.declared.Settings.{Settings}
 use Rattle.settings.proofs.Settings.refusal.Statement.{statement}
 use Rattle.settings.proofs.Settings.refusal.Tie as tie
@@ -14,16 +16,16 @@ use Rattle.settings.proofs.Settings.refusal.Tie as tie
 -- the chain from each refusal on
 module _ (s : Settings) where
   abbrev from-6 : ℕ
-  from-6 = refuse 6 unless levelsGood s && orderGood s then 0
+  from-6 = refuse 6 unless passes (levelsRule s and orderRule s) then 0
 
   abbrev from-5 : ℕ
-  from-5 = refuse 5 unless limitGood s then from-6
+  from-5 = refuse 5 unless passes (limitRule s) then from-6
 
   abbrev from-4 : ℕ
-  from-4 = refuse 4 unless declaredGood s then from-5
+  from-4 = refuse 4 unless passes (declaredRule s) then from-5
 
   abbrev from-3 : ℕ
-  from-3 = refuse 3 unless frequencyGood s then from-4
+  from-3 = refuse 3 unless passes (frequencyRule s) then from-4
 
 -- what the test of a call's result tells of the reading's test
 passed : {r t : Bool} → r ≡ t → not r ≡ false → t ≡ true
@@ -61,10 +63,10 @@ behind-declared c = behind-frequency (c .before .before) ∙ refuse-passes 4 _ (
 behind-limit : (c : tie.Else4) → settingsRefusal (self-4 c) ≡ from-6 (self-4 c)
 behind-limit c = behind-declared (c .before .before) ∙ refuse-passes 5 _ (passed (c .before .limit-good .ensures) (c .if4 .left))
 
-behind-levels : (c : tie.Else5) → settingsRefusal (self-5 c) ≡ refuse 6 unless orderGood (self-5 c) then 0
+behind-levels : (c : tie.Else5) → settingsRefusal (self-5 c) ≡ refuse 6 unless passes (orderRule (self-5 c)) then 0
 behind-levels c =
     behind-limit (c .before .before)
-    ∙ ap (λ (t : Bool). refuse 6 unless t then 0) (and-passes (orderGood (self-5 c)) (passed (c .before .levels-good .ensures) (c .if5 .left)))
+    ∙ ap (λ (t : Bool). refuse 6 unless t then 0) (and-passes (passes (orderRule (self-5 c))) (passed (c .before .levels-good .ensures) (c .if5 .left)))
 
 samples-good-requires : tie.Need-samples-good-requires
 samples-good-requires c κs = search needs

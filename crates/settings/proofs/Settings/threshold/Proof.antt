@@ -1,5 +1,6 @@
--- A level of at most 40,000 times a declared voltage of at most 524,288 fits 8 bytes.
+-- The product of two numbers of 4 bytes fits 8.
 use borrow.Author.Needs.{needs}
+use Prim.Native.Nat.{_≤_}
 use native.Mathlib.Nat.{mul-le-mul}
 use native.Mathlib.Omega.{arith}
 use Rattle.settings.proofs.Settings.threshold.Statement.{statement}
@@ -9,10 +10,16 @@ cast-declared : tie.Need-cast-declared
 cast-declared c = search needs
 
 mul-t6 : tie.Need-mul-t6
-mul-t6 c = omega (arith, mul-le-mul (c .before .pre .1) (c .before .pre .0))
+mul-t6 c =
+    let level : c .before .args .begins ≤ 4294967295 = omega arith in
+    let declared : c .before .args .self .declared ≤ 4294967295 = omega (arith, c .struct-known .given) in
+    omega (arith, mul-le-mul level declared)
 
 mul-t8 : tie.Need-mul-t8
-mul-t8 c = omega (arith, mul-le-mul (c .before .pre .2) (c .before .pre .0))
+mul-t8 c =
+    let level : c .before .args .ends ≤ 4294967295 = omega arith in
+    let declared : c .before .args .self .declared ≤ 4294967295 = omega (arith, c .struct-known .given) in
+    omega (arith, mul-le-mul level declared)
 
 returns : tie.Need-returns
 returns c = search needs
