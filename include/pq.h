@@ -1,8 +1,9 @@
 /* pq.h: the measuring part of a supply-voltage logger, for a host program in C or C++.
  *
  * Samples of one voltage channel go in; records of dips, swells, interruptions and rapid voltage
- * changes (IEC 61000-4-30, Edition 3) come out. What the channel remembers between two calls lies
- * in an image of 620 bytes, which the host keeps: in memory, in a file, or handed to another meter.
+ * changes (IEC 61000-4-30, Edition 3) come out, by the rules in docs/RULES.md. What the channel
+ * remembers between two calls lies in an image of 620 bytes, which the host keeps: in memory, in a
+ * file, or handed to another meter.
  *
  * Both calls answer every input, with 0 or with the number of a refusal, and both end. They use the
  * caller's buffers and a few KiB of stack, and nothing else: no allocation, no global state, no
@@ -10,7 +11,7 @@
  *
  * Rules for the buffers, which the calls cannot check:
  * - each one is a pointer and its length in bytes, and the bytes are there;
- * - no pointer is null, not even one of length 0;
+ * - no pointer is null, not even one of length 0: there the address of any byte will do;
  * - a buffer that is written to overlaps no other one; so the next image is not the old one in
  *   place: keep two and let them change places;
  * - they need no alignment.
@@ -27,6 +28,14 @@
 #ifdef __cplusplus
 extern "C" {
 #endif
+
+/* The version, as three numbers and as a text; in two steps, so that each name becomes its number. */
+#define PQ_VERSION_MAJOR 1
+#define PQ_VERSION_MINOR 0
+#define PQ_VERSION_PATCH 0
+#define PQ_VERSION PQ_DOTTED(PQ_VERSION_MAJOR, PQ_VERSION_MINOR, PQ_VERSION_PATCH)
+#define PQ_DOTTED(major, minor, patch) PQ_TEXT(major) "." PQ_TEXT(minor) "." PQ_TEXT(patch)
+#define PQ_TEXT(number) #number
 
 /* Lengths in bytes. */
 #define PQ_SETTINGS_SIZE 36
@@ -72,16 +81,41 @@ enum pq_kind { PQ_DIP = 1, PQ_SWELL = 2, PQ_INTERRUPTION = 3, PQ_CHANGE = 4 };
 enum pq_why {
     PQ_ALL_TAKEN = 0,    /* the whole block was taken */
     PQ_RECORDS_FULL = 1, /* the next sample's records would not fit: call again with the rest */
-    PQ_VALUES_ENDED = 2  /* the next sample would pass the last value, 4294967295: begin anew */
+    PQ_VALUES_ENDED = 2  /* the next sample would pass the last value, 4294967295, which comes after
+                            497 days at 50 Hz: begin anew behind that sample, the last of its
+                            half-cycle. No later call takes it or any behind it: a host that does
+                            not look drops every sample from here on */
 };
 
-/* What a host may want to read from an image: numbers of 4 bytes. */
-#define PQ_IMAGE_SETTINGS 32 /* the settings, PQ_SETTINGS_SIZE bytes */
-#define PQ_IMAGE_VALUES 92   /* V, the count of values so far */
-#define PQ_IMAGE_PHASE 576   /* 0 fewer than N values, 1 never yet steady, 2 steady, 3 in a change */
-#define PQ_IMAGE_DIP 596     /* first value of the dip, swell, interruption that stands; 0 if none */
-#define PQ_IMAGE_SWELL 604
-#define PQ_IMAGE_INTERRUPTION 612
+/* What a host may want to read from an image: numbers of 4 bytes, at these places. */
+
+/* The settings, PQ_SETTINGS_SIZE bytes, behind the table of contents. */
+#define PQ_IMAGE_SETTINGS 32
+
+/* The half-cycle in progress: its count of samples; and, behind the sums of it and of the one
+ * before, whether there is one before: 1 or 0. */
+#define PQ_IMAGE_COUNT (PQ_IMAGE_SETTINGS + PQ_SETTINGS_SIZE)
+#define PQ_IMAGE_WHOLE (PQ_IMAGE_COUNT + 4 + 8 + 8)
+
+/* V, the count of values so far, and the last values, oldest first: V of them, N at most; the
+ * places behind them are 0. N is 100 at 50 Hz and 120 at 60 Hz. */
+#define PQ_IMAGE_VALUES (PQ_IMAGE_WHOLE + 4)
+#define PQ_IMAGE_KEPT (PQ_IMAGE_VALUES + 4)
+#define PQ_IMAGE_KEPT_PLACES 120
+
+/* The phase: 0 fewer than N values, 1 never yet steady, 2 steady, 3 in a rapid voltage change. Then
+ * four numbers of the change, 0 in other phases; the first is k, the value at which it began. */
+#define PQ_IMAGE_PHASE (PQ_IMAGE_KEPT + 4 * PQ_IMAGE_KEPT_PLACES)
+#define PQ_IMAGE_CHANGE (PQ_IMAGE_PHASE + 4)
+
+/* The dip, swell and interruption that stand: the value at which each began, 0 if none stands, and
+ * its magnitude so far: the least value, of a swell the greatest. */
+#define PQ_IMAGE_DIP (PQ_IMAGE_CHANGE + 4 * 4)
+#define PQ_IMAGE_DIP_MAGNITUDE (PQ_IMAGE_DIP + 4)
+#define PQ_IMAGE_SWELL (PQ_IMAGE_DIP + 8)
+#define PQ_IMAGE_SWELL_MAGNITUDE (PQ_IMAGE_SWELL + 4)
+#define PQ_IMAGE_INTERRUPTION (PQ_IMAGE_SWELL + 8)
+#define PQ_IMAGE_INTERRUPTION_MAGNITUDE (PQ_IMAGE_INTERRUPTION + 4)
 
 /* What the two calls return. */
 enum pq_refusal {
@@ -123,20 +157,82 @@ uint32_t pq_advance(const uint8_t *image, size_t image_length,
 /* Numbers in bytes, on any machine. */
 static inline uint32_t pq_get_u32(const uint8_t *at)
 {
-    return (uint32_t)at[0] | (uint32_t)at[1] << 8 | (uint32_t)at[2] << 16 | (uint32_t)at[3] << 24;
+    uint32_t b0 = at[0], b1 = at[1], b2 = at[2], b3 = at[3];
+    return b0 | b1 << 8 | b2 << 16 | b3 << 24;
 }
 
 static inline uint64_t pq_get_u64(const uint8_t *at)
 {
-    return (uint64_t)pq_get_u32(at) | (uint64_t)pq_get_u32(at + 4) << 32;
+    uint64_t low = pq_get_u32(at), high = pq_get_u32(at + 4);
+    return low | high << 32;
 }
 
 static inline void pq_put_u32(uint8_t *at, uint32_t number)
 {
-    at[0] = (uint8_t)number;
-    at[1] = (uint8_t)(number >> 8);
-    at[2] = (uint8_t)(number >> 16);
-    at[3] = (uint8_t)(number >> 24);
+    for (int j = 0; j < 4; j++, number >>= 8)
+        at[j] = number & 0xff;
+}
+
+static inline void pq_put_u64(uint8_t *at, uint64_t number)
+{
+    for (int j = 0; j < 8; j++, number >>= 8)
+        at[j] = number & 0xff;
+}
+
+/* A record as numbers; see PQ_RECORD_.. for what they mean. */
+struct pq_record {
+    uint32_t kind; /* one of enum pq_kind */
+    uint64_t start;
+    uint64_t duration;
+    uint32_t first;
+    uint32_t second;
+};
+
+static inline struct pq_record pq_get_record(const uint8_t *at)
+{
+    struct pq_record record;
+    record.kind = at[PQ_RECORD_KIND];
+    record.start = pq_get_u32(at + PQ_RECORD_START);
+    record.duration = pq_get_u32(at + PQ_RECORD_DURATION);
+    record.first = pq_get_u32(at + PQ_RECORD_FIRST);
+    record.second = pq_get_u32(at + PQ_RECORD_SECOND);
+    return record;
+}
+
+/* N of an image's channel, which also divides the magnitudes of a rapid voltage change. */
+static inline uint32_t pq_window_length(const uint8_t *image)
+{
+    return pq_get_u32(image + PQ_IMAGE_SETTINGS + PQ_SETTINGS_SYSTEM) == 50 ? 100 : 120;
+}
+
+/* The newest value in an image, in sixteenths of a count; 0 if there is none yet. */
+static inline uint32_t pq_newest_value(const uint8_t *image)
+{
+    uint32_t values = pq_get_u32(image + PQ_IMAGE_VALUES), most = pq_window_length(image);
+    uint32_t kept = values < most ? values : most;
+    return kept == 0 ? 0 : pq_get_u32(image + PQ_IMAGE_KEPT + 4 * (kept - 1));
+}
+
+/* What a refusal means, for a message. */
+static inline const char *pq_refusal_text(uint32_t number)
+{
+    switch (number) {
+    case PQ_OK: return "not refused";
+    case PQ_REFUSED_SETTINGS_LENGTH: return "the settings are not 36 bytes";
+    case PQ_REFUSED_SAMPLES: return "settings: M, samples in a half-cycle, is not 8 to 256";
+    case PQ_REFUSED_SYSTEM: return "settings: F, the system, is neither 50 nor 60";
+    case PQ_REFUSED_DECLARED: return "settings: U, the declared voltage, is not 16 to 524288";
+    case PQ_REFUSED_LIMIT: return "settings: T is not 50 to 600, or H is not below T";
+    case PQ_REFUSED_LEVELS: return "settings: I, D, W or G is out of range or out of order";
+    case PQ_REFUSED_IMAGE_ROOM: return "fewer than 620 bytes to write the image into";
+    case PQ_REFUSED_IMAGE_LENGTH: return "the image is not 620 bytes";
+    case PQ_REFUSED_IMAGE_TABLE: return "the image has another table of contents";
+    case PQ_REFUSED_IMAGE_SETTINGS: return "the image has settings that are out of range";
+    case PQ_REFUSED_IMAGE_BODY: return "the image has another part that cannot be";
+    case PQ_REFUSED_ODD_SAMPLES: return "an odd number of sample bytes";
+    case PQ_REFUSED_REPLY_ROOM: return "fewer than 24 bytes to write the reply into";
+    default: return "no refusal has this number";
+    }
 }
 
 #ifdef __cplusplus

@@ -1,12 +1,17 @@
 #!/usr/bin/env bash
-# Tests log, the example of a host in C: plain, with the sanitizers, and under valgrind. 'make test' builds it and runs this. Stops at the first difference.
+# Tests the header, the library, and log, the example of a host in C: plain, with the sanitizers, and under valgrind. 'make test' builds it and runs this.
+# Stops at the first difference.
 set -euo pipefail
 cd "$(dirname "$0")/.."
 OUT=$(realpath "${OUT:-../target/examples}")
 LIBRARY=$(realpath "${LIBRARY:-../target/staticlib/libhost.a}")
 work=$(mktemp -d)
-trap 'rm -rf "$work"' EXIT
+# In memory if possible: they are synced some thousand times.
+files=$(mktemp -d -p /dev/shm || mktemp -d)
+trap 'rm -rf "$work" "$files"' EXIT
 export ASAN_OPTIONS=detect_leaks=1
+state=$files/state
+log=$files/log
 
 # same NAME EXPECTED GOT
 same() {
@@ -17,94 +22,290 @@ same() {
 # with PLACE BYTES FILE: the file with four bytes at a place replaced.
 with() {
     head -c "$1" "$3"
-    printf "$2"
+    printf '%b' "$2"
     tail -c "+$(($1 + 5))" "$3"
 }
 
-# refuses NAME NUMBER: standard input to the command in LOG, which must print only this refusal and end with 1.
-refuses() {
+# sealed: a STATE with the checksum that its other bytes have, for one that is forged.
+sealed() {
+    python3 -c '
+import sys
+state, sum = sys.stdin.buffer.read()[:644], 14695981039346656037
+for byte in state:
+    sum = (sum ^ byte) * 1099511628211 % 2**64
+sys.stdout.buffer.write(state + sum.to_bytes(8, "little"))'
+}
+
+# taken: samples taken, in STATE; nothing without a STATE.
+taken() {
+    if [ -f "$state" ]; then od -An -tu8 -j620 -N8 "$state" | tr -d ' '; fi
+}
+
+# ends NAME STATUS OUTPUT MESSAGE WORDS..: standard input to the command in LOG, which must end with this status, print only this and say this.
+ends() {
     local status=0
-    "${LOG[@]}" "${@:3}" >"$work/got" || status=$?
-    echo "refused $2" >"$work/want"
-    [ "$status" = 1 ] || { echo "different: $1 ends with $status"; exit 1; }
-    same "$1" "$work/want" "$work/got"
+    "${LOG[@]}" "${@:5}" >"$work/got" 2>"$work/said" || status=$?
+    [ "$status" = "$2" ] || { cat "$work/said"; echo "different: $1 ends with $status"; exit 1; }
+    same "$1" <(printf '%b' "$3") "$work/got"
+    same "$1, message" <(printf '%b' "$4") "$work/said"
 }
 
-# handover NAME RECORDING EXPECTED SAMPLES..: processes that share one stream, one for each number, then one for the rest.
+# kept NAME RECORDING: STATE and LOG are now those of one single run over the recording.
+kept() {
+    same "$1, LOG" "$2.txt" "$log"
+    same "$1, STATE" "$work/$2 state" "$state"
+}
+
+# handover NAME RECORDING SAMPLES..: a run for each number of samples, then one for the rest. First each run opens the file, then all share a pipe.
 handover() {
-    local recording=$2 expected=$3 taken=0 whole
-    {
-        "${LOG[@]}" begin "$work/image"
-        for samples in "${@:4}"; do
-            "${LOG[@]}" advance "$work/image" "$samples"
-            taken=$((taken + samples))
-        done
-        # No process has read further than it should: a value for each whole half-cycle but the first.
-        whole=$((taken / $(od -An -tu4 -N4 "$recording")))
-        [ "$("${LOG[@]}" values "$work/image")" = "values $((whole > 0 ? whole - 1 : 0))" ] || { echo "different: $1, values after $taken samples" >&2; exit 1; }
-        "${LOG[@]}" advance "$work/image"
-    } <"$recording" >"$work/got"
-    "${LOG[@]}" values "$work/image" >>"$work/got"
-    same "$1" "$expected" "$work/got"
+    local samples
+    rm -f "$state" "$log"
+    for samples in "${@:3}" ""; do
+        "${LOG[@]}" "$state" "$log" ${samples:+"$samples"} <"$2.bin"
+    done
+    kept "$1, from a file" "$2"
+    rm "$state" "$log"
+    for samples in "${@:3}" ""; do
+        "${LOG[@]}" "$state" "$log" ${samples:+"$samples"}
+    done < <(cat "$2.bin")
+    kept "$1, from a shared pipe" "$2"
 }
 
-# tests NAME: the command in LOG, cut at the numbers of samples in CUTS; after PAUSE seconds it has read what there is.
-tests() {
+# prints NAME: the recordings through standard input and output. After PAUSE seconds a piece has been read by itself.
+prints() {
     for recording in worked crusher busy; do
         "${LOG[@]}" <$recording.bin >"$work/got"
         same "$1: $recording" $recording.txt "$work/got"
         { cat $recording.bin; printf x; } | "${LOG[@]}" >"$work/got"
         same "$1: $recording, one odd byte more" $recording.txt "$work/got"
-        # The pauses let each piece be read by itself.
-        { head -c 99; sleep $PAUSE; head -c 1; sleep $PAUSE; cat; } <$recording.bin | "${LOG[@]}" >"$work/got"
-        same "$1: $recording, in pieces of odd length" $recording.txt "$work/got"
     done
-    for cut in "${CUTS[@]}"; do
-        handover "$1: crusher, handed over after $cut samples" crusher.bin crusher.txt "$cut"
-    done
-    handover "$1: busy, handed over among its events" busy.bin busy.txt 1770 8 8 8 9 100 1
-    handover "$1: worked, handed over after every 9 samples" worked.bin worked.txt 9 9 9 9 9 9 9
-
-    head -c 35 worked.bin >"$work/settings"
-    refuses "$1: settings too short" 1 <"$work/settings"
-    refuses "$1: nothing at all" 1 </dev/null
-    while read -r place bytes number name; do
-        with "$place" "$bytes" worked.bin >"$work/settings"
-        refuses "$1: $name" "$number" <"$work/settings"
-    done <<'END'
-0 \7\0\0\0 2 M of 7
-4 \63\0\0\0 3 F of 51
-8 \17\0\0\0 4 U of 15
-16 \54\1\0\0 5 H as great as T
-20 \0\0\0\0 6 I of 0
-END
-
-    # Image files that are no images: refused, and left as they were.
-    "${LOG[@]}" begin "$work/good" <worked.bin >/dev/null
-    head -c 619 "$work/good" >"$work/bad"
-    refuses "$1: an image too short" 8 advance "$work/bad" <worked.bin
-    { cat "$work/good"; printf x; } >"$work/bad"
-    refuses "$1: an image too long" 8 advance "$work/bad" <worked.bin
-    with 0 '\2\0\0\0' "$work/good" >"$work/bad"
-    refuses "$1: an image with another table" 9 advance "$work/bad" <worked.bin
-    with 36 '\0\0\0\0' "$work/good" >"$work/bad"
-    refuses "$1: an image with F of 0" 10 values "$work/bad" </dev/null
-    with 68 '\10\0\0\0' "$work/good" >"$work/bad" && cp "$work/bad" "$work/before"
-    refuses "$1: an image with a count of M" 11 advance "$work/bad" <worked.bin
-    same "$1: a refused image is left" "$work/before" "$work/bad"
+    { head -c 99; sleep "$PAUSE"; head -c 1; sleep "$PAUSE"; cat; } <busy.bin | "${LOG[@]}" >"$work/got"
+    same "$1: busy, in pieces of odd length" busy.txt "$work/got"
 }
 
-# The header by itself, in C and C++.
-echo '#include "pq.h"' >"$work/header.c"
-cp "$work/header.c" "$work/header.cpp"
-for compiler in "gcc -std=c99 $work/header.c" "clang -std=c99 $work/header.c" "g++ -std=c++11 $work/header.cpp" "clang++ -std=c++11 $work/header.cpp"; do
-    $compiler -Wall -Wextra -pedantic -Wno-unused-function -Werror -I../include -c -o "$work/header.o"
-    echo "compiled: include/pq.h by ${compiler%% /*}"
-done
+# goes_on NAME: the channel kept in STATE: in a single run; handed over after the numbers of samples in CRUSHER, BUSY, WORKED; with an input that grows.
+goes_on() {
+    for recording in worked crusher busy; do
+        rm -f "$state" "$log"
+        "${LOG[@]}" "$state" "$log" <$recording.bin
+        same "$1: $recording, a single run" $recording.txt "$log"
+        mv "$state" "$work/$recording state"
+    done
+    for cut in "${CRUSHER[@]}"; do
+        handover "$1: crusher, handed over after $cut samples" crusher "$cut"
+    done
+    handover "$1: busy, handed over after ${BUSY[*]} samples" busy "${BUSY[@]}"
+    handover "$1: worked, handed over after ${WORKED[*]} samples" worked "${WORKED[@]}"
+    rm -f "$state" "$log"
+    head -c 7001 busy.bin | "${LOG[@]}" "$state" "$log"
+    [ "$(tail -n 1 "$log")" = "values 434" ] || { echo "different: $1: the count of values after 3482 samples"; exit 1; }
+    "${LOG[@]}" "$state" "$log" <busy.bin
+    kept "$1: busy, with more input after its end" busy
+    rm "$state" "$log"
+    for samples in 9 ""; do
+        { head -c 50 >"$work/got"; "${LOG[@]}" "$state" "$log" ${samples:+"$samples"}; } <worked.bin
+    done
+    kept "$1: worked, of which others have read" worked
+}
 
-python3 recordings.py "$work"
-for recording in worked crusher busy; do
-    same "recordings.py: $recording.bin" $recording.bin "$work/$recording.bin"
+# refuses NAME: settings and words that are refused.
+refuses() {
+    head -c 35 worked.bin >"$work/settings"
+    ends "$1: settings too short" 1 'refused 1\n' 'log: refused: the settings are not 36 bytes\n' <"$work/settings"
+    ends "$1: nothing at all" 1 'refused 1\n' 'log: refused: the settings are not 36 bytes\n' </dev/null
+    rm -f "$state" "$log"
+    while read -r place bytes number text; do
+        with "$place" "$bytes" worked.bin >"$work/settings"
+        ends "$1: refusal $number" 1 "refused $number\n" "log: refused: settings: $text\n" <"$work/settings"
+        ends "$1: refusal $number, with a STATE" 1 "refused $number\n" "log: refused: settings: $text\n" "$state" "$log" <"$work/settings"
+    done <<'END'
+0 \07\0\0\0 2 M, samples in a half-cycle, is not 8 to 256
+4 \063\0\0\0 3 F, the system, is neither 50 nor 60
+8 \017\0\0\0 4 U, the declared voltage, is not 16 to 524288
+16 \054\01\0\0 5 T is not 50 to 600, or H is not below T
+20 \0\0\0\0 6 I, D, W or G is out of range or out of order
+END
+    [ -z "$(ls "$state" "$log" 2>/dev/null)" ] || { echo "different: $1: refused settings make files"; exit 1; }
+    ends "$1: one word" 2 '' 'log\nlog STATE LOG [N]\n' "$state" <worked.bin
+    ends "$1: a number in letters" 2 '' 'log\nlog STATE LOG [N]\n' "$state" "$log" ten <worked.bin
+    ends "$1: a number that is too great" 2 '' 'log\nlog STATE LOG [N]\n' "$state" "$log" 18446744073709551616 <worked.bin
+    ends "$1: a number below 0" 2 '' 'log\nlog STATE LOG [N]\n' "$state" "$log" -1 <worked.bin
+    ends "$1: four words" 2 '' 'log\nlog STATE LOG [N]\n' "$state" "$log" 1 2 <worked.bin
+}
+
+# stops NAME MESSAGE WORDS..: standard input to log with these words, which must end with status 2, say this, and leave STATE and LOG as they were.
+stops() {
+    cp "$state" "$work/state before"
+    cp "$log" "$work/log before"
+    ends "$1" 2 '' "log: $2\n" "${@:3}"
+    left "$1"
+}
+
+# left NAME: STATE and LOG as they were before.
+left() {
+    same "$1, STATE left as it was" "$work/state before" "$state"
+    same "$1, LOG left as it was" "$work/log before" "$log"
+}
+
+# anew: STATE and LOG after 40 samples, with more in LOG than STATE counts.
+anew() {
+    rm -f "$state" "$log"
+    "${LOG[@]}" "$state" "$log" 40 <worked.bin
+    cp "$state" "$work/good"
+    cp "$log" "$work/counted"
+    echo "behind what STATE counts" >>"$log"
+}
+
+# refuses_state NAME: a STATE that is damaged as in DAMAGE; one that is whole and cannot be.
+refuses_state() {
+    anew
+    for edit in "${DAMAGE[@]}"; do
+        case $edit in
+            short) head -c 651 "$work/good" ;;
+            long) cat "$work/good" - <<<'' ;;
+            empty) ;;
+            numbers) head -c 32 "$work/good" ;;
+            *) with "${edit%%:*}" "${edit#*:}" "$work/good" ;;
+        esac >"$state"
+        stops "$1: STATE with $edit" "$state: damaged" "$state" "$log" <worked.bin
+    done
+    while read -r edit number text; do
+        with "${edit%%:*}" "${edit#*:}" "$work/good" | sealed >"$state"
+        cp "$state" "$work/state before"
+        ends "$1: STATE with $edit, sealed" 1 "refused $number\n" "log: refused: $text\n" "$state" "$log" <worked.bin
+        left "$1: STATE with $edit, sealed"
+    done <<'END'
+0:\02\0\0\0 9 the image has another table of contents
+36:\0\0\0\0 10 the image has settings that are out of range
+68:\010\0\0\0 11 the image has another part that cannot be
+END
+    # 4611686018427387885 samples end at the last byte that a file can have.
+    with 624 '\0377\0377\0377\077' "$work/good" >"$work/many"
+    with 620 '\0355\0377\0377\0377' "$work/many" | sealed >"$state"
+    stops "$1: most samples" "standard input: fewer samples than $state counts" "$state" "$log" <worked.bin
+    with 620 '\0356\0377\0377\0377' "$work/many" | sealed >"$state"
+    stops "$1: one sample more" "$state: more samples than a file can have" "$state" "$log" <worked.bin
+}
+
+# refuses_log NAME: a LOG that is not the one that STATE counts the lines of.
+refuses_log() {
+    anew
+    head -c 30 "$work/counted" >"$log"
+    stops "$1: LOG too short" "$log: not the lines that $state counts" "$state" "$log" <worked.bin
+    { tr s S <"$work/counted"; echo more; } >"$log"
+    stops "$1: LOG with other letters" "$log: not the lines that $state counts" "$state" "$log" <worked.bin
+    tail -c +2 busy.txt >"$log"
+    stops "$1: another LOG" "$log: not the lines that $state counts" "$state" "$log" <worked.bin
+    cp "$work/counted" "$log"
+    with 628 "\\0$(printf %o $(($(wc -c <"$log") + 1)))\\0\\0\\0" "$work/good" | sealed >"$state"
+    stops "$1: LOG one byte too short" "$log: not the lines that $state counts" "$state" "$log" <worked.bin
+    cp "$work/good" "$state"
+    rm "$log"
+    ends "$1: no LOG" 2 '' "log: $log: is not there, and $state is\n" "$state" "$log" <worked.bin
+    same "$1: no LOG, STATE left as it was" "$work/good" "$state"
+
+    printf x >"$log"
+    stops "$1: LOG of one byte and no STATE" "$log: is there, and $files/other is not" "$files/other" "$log" <worked.bin
+    head -n 1 worked.txt >"$log"
+    stops "$1: LOG and no STATE" "$log: is there, and $files/other is not" "$files/other" "$log" <worked.bin
+    head -c 35 worked.bin >"$work/settings"
+    stops "$1: LOG, no STATE and no settings" "$log: is there, and $files/other is not" "$files/other" "$log" <"$work/settings"
+    stops "$1: LOG and no folder of STATE" "$log: is there, and $files/other/state is not" "$files/other/state" "$log" <worked.bin
+    [ "$(ls "$files")" = $'log\nstate' ] || { ls "$files"; echo "different: $1: files are made"; exit 1; }
+    rm "$state" "$log"
+    touch "$log"
+    "${LOG[@]}" "$state" "$log" <worked.bin
+    kept "$1: an empty LOG and no STATE" worked
+    rm "$state"
+}
+
+# refuses_input NAME: a file as standard input that is not the recording that STATE has samples of.
+refuses_input() {
+    anew
+    for length in 0 35 115; do
+        head -c "$length" worked.bin >"$work/recording"
+        stops "$1: $length bytes of input" "standard input: fewer samples than $state counts" "$state" "$log" <"$work/recording"
+    done
+    with 32 '\0311\0\0\0' worked.bin >"$work/recording"
+    stops "$1: another recording" "standard input: other settings than in $state" "$state" "$log" <"$work/recording"
+    stops "$1: another recording, longer" "standard input: other settings than in $state" "$state" "$log" <crusher.bin
+    head -c 116 worked.bin >"$work/recording"
+    "${LOG[@]}" "$state" "$log" <"$work/recording"
+    same "$1: no more input than was taken" <(cat "$work/counted"; echo "values 4") "$log"
+}
+
+# refuses_names NAME: one file in two places, and standard files that are closed.
+refuses_names() {
+    rm -f "$state" "$log"
+    for name in "$state" "$state.new"; do
+        ends "$1: LOG is ${name##*/}" 2 '' "log: $name: is $state or $state.new, too\n" "$state" "$name" <worked.bin
+    done
+    [ -z "$(ls "$files")" ] || { ls "$files"; echo "different: $1: LOG by the name of STATE makes files"; exit 1; }
+    anew
+    cp "$log" "$state.new"
+    for name in state state.new; do
+        stops "$1: LOG is $name by another name" "$files/./$name: is $state or $state.new, too" "$state" "$files/./$name" <worked.bin
+        same "$1: LOG is $name by another name, STATE.new left as it was" "$log" "$state.new"
+    done
+    rm "$state.new"
+    stops "$1: no standard input" "standard input: Bad file descriptor" "$state" "$log" <&-
+    for closed in 1 2; do
+        status=0
+        case $closed in
+            1) "${LOG[@]}" "$state" "$log" <worked.bin 2>"$work/said" >&- || status=$? ;;
+            2) "${LOG[@]}" "$state" "$log" <worked.bin 2>&- || status=$? ;;
+        esac
+        [ "$status" = 2 ] || { echo "different: $1: file $closed closed, ends with $status"; exit 1; }
+        left "$1: file $closed closed"
+    done
+}
+
+# at_once NAME: a run while another one waits for samples; then LOG is replaced under that one.
+at_once() {
+    local other status=0
+    rm -f "$state" "$log" "$work/pipe"
+    mkfifo "$work/pipe"
+    "${LOG[@]}" "$state" "$log" <"$work/pipe" 2>"$work/other said" &
+    other=$!
+    exec 3>"$work/pipe"
+    head -c 100 worked.bin >&3
+    for _ in {1..1000}; do
+        [ "$(taken)" != 32 ] || break
+        sleep 0.01
+    done
+    stops "$1: two runs at once" "$log: another run has it" "$state" "$log" <worked.bin
+    rm "$log"
+    cp "$work/log before" "$log"
+    tail -c +101 worked.bin >&3
+    exec 3>&-
+    wait "$other" || status=$?
+    [ "$status" = 2 ] || { echo "different: $1: LOG replaced, ends with $status"; exit 1; }
+    same "$1: LOG replaced, message" <(echo "log: $log: removed or replaced") "$work/other said"
+    same "$1: LOG replaced, LOG left as it was" "$work/log before" "$log"
+}
+
+# values_end NAME: a channel at its last value, never yet steady. It takes the 7 samples that complete no value, and no more in a second run.
+values_end() {
+    rm -f "$state" "$log"
+    "${LOG[@]}" "$state" "$log" 16 <worked.bin
+    with 92 '\0377\0377\0377\0377' "$state" >"$work/most"
+    with 576 '\01\0\0\0' "$work/most" | sealed >"$state"
+    { cat "$log"; echo "values 4294967295"; } >"$work/want"
+    for run in first second; do
+        ends "$1: the values' end, $run run" 3 '' 'log: the count of values is at its end: further samples are not taken\n' "$state" "$log" <worked.bin
+        same "$1: the values' end, $run run, LOG" "$work/want" "$log"
+        [ "$(taken)" = 23 ] || { echo "different: $1: the values' end, samples taken"; exit 1; }
+    done
+}
+
+# The header alone, and with all its functions in use: in C and C++.
+echo '#include "pq.h"' >"$work/alone.c"
+for compiler in "gcc -std=c99 -x c" "clang -std=c99 -x c" "g++ -std=c++17 -Wold-style-cast -x c++" "clang++ -std=c++17 -Wold-style-cast -x c++"; do
+    warnings="$compiler -Wall -Wextra -Wconversion -pedantic -Werror -I../include"
+    $warnings -c "$work/alone.c" -o "$work/alone.o"
+    $warnings ../tests/header.c -x none "$LIBRARY" -o "$work/header"
+    "$work/header"
+    echo "same: include/pq.h by ${compiler%% -x*}"
 done
 
 # The library defines the two calls and needs three functions of a C library.
@@ -113,19 +314,73 @@ echo "same: names of the library"
 size "$LIBRARY" | awk 'NR > 1 && $2 + $3 > 0 { print "data: " $0; data = 1 } END { exit data }'
 echo "same: the library has no data of its own"
 
-# The code in the document.
-sed -n '/^```c$/,/^```$/p' ../docs/INTEGRATION.md | grep -v '^```' >"$work/document.c"
-gcc -std=c99 -Wall -Wextra -pedantic -Wconversion -Werror -I../include -c "$work/document.c" -o "$work/document.o"
-echo "compiled: the code in docs/INTEGRATION.md"
+# The stack that docs/INTEGRATION.md promises, in bytes.
+gcc -std=c99 -Wall -Wextra -Werror -O2 -I../include -Wl,-z,now ../bench/stack.c "$LIBRARY" -o "$work/stack"
+"$work/stack" | awk '{ used = $(NF - 1) } used > (/^begin/ ? 2560 : 6144) { print "stack: " $0; over = 1 } END { exit over || NR == 0 }'
+echo "same: the stack is within its bounds"
 
-CUTS=(0 1 63 64 8000 8001 12799 22751 30000 38399 38400)
+# stored: the lines of log as the code in the document prints them.
+stored() {
+    awk 'BEGIN { kinds["dip"] = 1; kinds["swell"] = 2; kinds["interruption"] = 3; kinds["rvc"] = 4; n = 100 }
+         $1 in kinds { unit = 0.020 / 16 / ($1 == "rvc" ? n : 1)
+                       printf "kind %d, at %.2f s, for %.2f s: %.1f V, %.1f V\n", kinds[$1], ($2 - 1) / n, $3 / n, $4 * unit, $5 * unit }'
+}
+
+# The code in the document: on recordings in blocks of some lengths; and at the end of the count of values, where it must begin anew with a whole half-cycle.
+# For that the busy example becomes one under the document's settings, with each sample eight times.
+awk '/^```$/ { code = 0 } code; /^```c$/ { code = 1 }' ../docs/INTEGRATION.md >"$work/integration.c"
+gcc -std=c99 -Wall -Wextra -pedantic -Wconversion -Werror -I../include -I"$work" ../tests/document.c "$LIBRARY" -o "$work/document"
+python3 -B -c '
+import recordings, sys
+recordings.write(sys.argv[1], "wide.bin", recordings.CRUSHER, [115 * x for x in recordings.busy() for _ in range(8)])' "$work"
+for block in 1 7 64 4999; do
+    for recording in crusher busy; do
+        "$work/document" $recording.bin $block >"$work/got"
+        same "the code in docs/INTEGRATION.md: $recording, $block samples at a time" <(stored <$recording.txt) "$work/got"
+    done
+    while read -r values halves; do
+        { head -c 36 "$work/wide.bin"; tail -c "+$((36 + 128 * halves + 1))" "$work/wide.bin"; } | "$OUT/log" | stored >"$work/want"
+        "$work/document" "$work/wide.bin" $block "$values" >"$work/got" 2>&1
+        same "the code in docs/INTEGRATION.md: from value $values on, $block samples at a time" "$work/want" "$work/got"
+    done <<'END'
+4294967290 8
+4294967295 3
+END
+done
+[ "$(wc -l <"$work/got")" = 121 ] || { echo "different: the records behind the values' end"; exit 1; }
+
+# all_tests NAME: of the command in LOG.
+all_tests() {
+    prints "$1"
+    goes_on "$1"
+    refuses "$1"
+    refuses_state "$1"
+    refuses_log "$1"
+    refuses_input "$1"
+    refuses_names "$1"
+    at_once "$1"
+    values_end "$1"
+}
+
 PAUSE=0.1
+CRUSHER=(0 1 63 64 8000 8001 12799 22751 30000 38399 38400)
+BUSY=(1770 8 8 8 9 100 1)
+WORKED=(9 9 9 9 9 9 9)
+DAMAGE=(short long empty numbers 0:'\02\0\0\0' 92:'\02\0\0\0' 620:'\051\0\0\0' 628:'\01\0\0\0' 636:'\0\0\0\0' 648:'\0\0\0\0')
 LOG=("$OUT/log")
-tests plain
+all_tests plain
 LOG=("$OUT/log-sanitized")
-tests sanitized
-CUTS=(8001 30000)
-PAUSE=2
+all_tests sanitized
+# Each run takes long: fewer of them.
+PAUSE=1
+CRUSHER=(8001)
+BUSY=(1770 8)
+WORKED=(9 9)
+DAMAGE=(short)
 LOG=(valgrind --quiet --leak-check=full --error-exitcode=9 "$OUT/log")
-tests valgrind
+prints valgrind
+goes_on valgrind
+refuses_state valgrind
+refuses_input valgrind
+values_end valgrind
 echo "all the same"
