@@ -36,6 +36,9 @@ const LINE: usize = 97;
 // A line of a word of 7 letters at most, a column and the line's end.
 const WORD_LINE: usize = 29;
 
+// The phase, as look tells it, within a rapid voltage change.
+const CHANGING: u8 = 3;
+
 // The logger after samples, and why it took no more: 0 all taken, 2 V is at its end.
 struct FedAll {
     logger: Logger,
@@ -214,7 +217,7 @@ fn finish(logger: Logger, why: u32)
         tell(readings.dip, b"dip\n");
         tell(readings.swell, b"swell\n");
         tell(readings.interruption, b"interruption\n");
-        tell(readings.phase == 3, b"rvc\n");
+        tell(readings.phase == CHANGING, b"rvc\n");
         if why == 2 {
             streams::write_all(
                 STDERR_FILENO,

@@ -93,11 +93,13 @@ refusals images = map restoreRefusal images
 -- the settings: M 7 and 257, F 51, U 15 and 524,289, T 49 and 601, H 300, I 0, W 20,001, I + G above D, D + 2 × G at W; and the nearest that are accepted
 abbrev pub settingsOut : List (List ℕ)
 settingsOut =
-    changed 32 4 7 ∷ changed 32 4 257 ∷ changed 36 4 51 ∷ changed 40 4 15 ∷ changed 40 4 524289 ∷ withoutH 49 ∷ changed 44 4 601 ∷ changed 48 4 300 ∷ changed 52 4 0 ∷ changed 60 4 20001 ∷ changed 52 4 8801 ∷ changed 60 4 9400 ∷ []
+    changed 32 4 7 ∷ changed 32 4 257 ∷ changed 36 4 51 ∷ changed 40 4 15 ∷ changed 40 4 524289 ∷ withoutH 49 ∷ changed 44 4 601 ∷ changed 48 4 300
+    ∷ changed 52 4 0 ∷ changed 60 4 20001 ∷ changed 52 4 8801 ∷ changed 60 4 9400 ∷ []
 
 abbrev pub settingsIn : List (List ℕ)
 settingsIn =
-    changed 32 4 8 ∷ changed 32 4 256 ∷ changed 36 4 60 ∷ changed 40 4 16 ∷ changed 40 4 524288 ∷ withoutH 50 ∷ changed 44 4 600 ∷ changed 48 4 299 ∷ changed 52 4 1 ∷ changed 60 4 20000 ∷ changed 52 4 8800 ∷ changed 60 4 9401 ∷ []
+    changed 32 4 8 ∷ changed 32 4 256 ∷ changed 36 4 60 ∷ changed 40 4 16 ∷ changed 40 4 524288 ∷ withoutH 50 ∷ changed 44 4 600 ∷ changed 48 4 299
+    ∷ changed 52 4 1 ∷ changed 60 4 20000 ∷ changed 52 4 8800 ∷ changed 60 4 9401 ∷ []
 
 -- the bodies: count, sum, last sum, mark, mark 0 with a last sum, mark 0 with V; a value, an unused place; phase 4, phase 0 with V ≥ N, a change outside phase 3; k at N, k above V,
 -- A(k − 1), a difference with V < k + N, a stand before k, one after V; a start above V, a magnitude, a magnitude of none

@@ -8,7 +8,8 @@ use Rattle.reading.specs.Values.{root, values}
 use Rattle.reading.specs.Image.{imageOf}
 use Rattle.reading.specs.Restore.{restoreRefusal}
 use Rattle.reading.specs.Engineer.{readings}
-use Rattle.reading.specs.Bench.{BenchReadings, q, qWith, repeated, change, restless, unsettled, changing, changingImage, changed, refusals, settingsOut, settingsIn, bodiesOut, bodiesIn, recordsOf}
+use Rattle.reading.specs.Bench.{BenchReadings, q, qWith, repeated, change, restless, unsettled, recordsOf}
+use Rattle.reading.specs.Bench.{changing, changingImage, changed, refusals, settingsOut, settingsIn, bodiesOut, bodiesIn}
 
 q-is-accepted : settingsRefusal q ≡ 0
 unfolding settingsRefusal
