@@ -2,7 +2,7 @@
  *
  * Samples of one voltage channel go in; records of dips, swells, interruptions and rapid voltage
  * changes (IEC 61000-4-30, Edition 3) come out, by the rules in docs/RULES.md. What the channel
- * remembers between two calls lies in an image of 620 bytes, which the host keeps: in memory, in a
+ * remembers between two calls lies in an image of 764 bytes, which the host keeps: in memory, in a
  * file, or handed to another meter.
  *
  * Both calls answer every input, with 0 or with the number of a refusal, and both end. They use the
@@ -30,7 +30,7 @@ extern "C" {
 #endif
 
 /* The version, as three numbers and as a text; in two steps, so that each name becomes its number. */
-#define PQ_VERSION_MAJOR 1
+#define PQ_VERSION_MAJOR 2
 #define PQ_VERSION_MINOR 0
 #define PQ_VERSION_PATCH 0
 #define PQ_VERSION PQ_DOTTED(PQ_VERSION_MAJOR, PQ_VERSION_MINOR, PQ_VERSION_PATCH)
@@ -39,7 +39,7 @@ extern "C" {
 
 /* Lengths in bytes. */
 #define PQ_SETTINGS_SIZE 36
-#define PQ_IMAGE_SIZE 620
+#define PQ_IMAGE_SIZE 764
 #define PQ_SAMPLE_SIZE 2
 #define PQ_RECORD_SIZE 20
 #define PQ_REPLY_SIZE 24
@@ -60,8 +60,11 @@ extern "C" {
 #define PQ_SETTINGS_SWELL 28        /* W, swell level: at most 20000, as all four */
 #define PQ_SETTINGS_HYSTERESIS 32   /* G, hysteresis of the three levels */
 
-/* A record: its kind in the first byte, three bytes of 0, then four numbers of 4 bytes. */
+/* A record: its kind and its mark, a byte each, two bytes of 0, then four numbers of 4 bytes. */
 #define PQ_RECORD_KIND 0
+#define PQ_RECORD_CLIPPED 1  /* 1 if one of the values that the first magnitude is taken from is
+                                clipped, else 0. A value is clipped if one of its samples is: -32768
+                                or 32767, where the voltage may have been beyond the range */
 #define PQ_RECORD_START 4    /* the value at which the event began, counted from 1 */
 #define PQ_RECORD_DURATION 8 /* in half-cycles */
 #define PQ_RECORD_FIRST 12   /* dip, interruption: the least value; swell: the greatest, both in
@@ -87,25 +90,31 @@ enum pq_why {
                             not look drops every sample from here on */
 };
 
-/* What a host may want to read from an image: numbers of 4 bytes, at these places. */
+/* What a host may want to read from an image: numbers of 4 bytes, if not said otherwise, at these
+ * places. A mark is 1 for clipped and 0 for not. */
 
 /* The settings, PQ_SETTINGS_SIZE bytes, behind the table of contents. */
 #define PQ_IMAGE_SETTINGS 32
 
 /* The half-cycle in progress: its count of samples; and, behind the sums of it and of the one
- * before, whether there is one before: 1 or 0. */
+ * before, whether there is one before: 1 or 0. Then the marks of the one in progress and of the one
+ * before. */
 #define PQ_IMAGE_COUNT (PQ_IMAGE_SETTINGS + PQ_SETTINGS_SIZE)
 #define PQ_IMAGE_WHOLE (PQ_IMAGE_COUNT + 4 + 8 + 8)
+#define PQ_IMAGE_HALF_CLIPPED (PQ_IMAGE_WHOLE + 4)
+#define PQ_IMAGE_LAST_CLIPPED (PQ_IMAGE_HALF_CLIPPED + 4)
 
 /* V, the count of values so far, and the last values, oldest first: V of them, N at most; the
- * places behind them are 0. N is 100 at 50 Hz and 120 at 60 Hz. */
-#define PQ_IMAGE_VALUES (PQ_IMAGE_WHOLE + 4)
+ * places behind them are 0. N is 100 at 50 Hz and 120 at 60 Hz. Then their marks, in the same order
+ * and in as many places, of one byte each. */
+#define PQ_IMAGE_VALUES (PQ_IMAGE_LAST_CLIPPED + 4)
 #define PQ_IMAGE_KEPT (PQ_IMAGE_VALUES + 4)
 #define PQ_IMAGE_KEPT_PLACES 120
+#define PQ_IMAGE_KEPT_CLIPPED (PQ_IMAGE_KEPT + 4 * PQ_IMAGE_KEPT_PLACES)
 
 /* The phase: 0 fewer than N values, 1 never yet steady, 2 steady, 3 in a rapid voltage change. Then
  * four numbers of the change, 0 in other phases; the first is k, the value at which it began. */
-#define PQ_IMAGE_PHASE (PQ_IMAGE_KEPT + 4 * PQ_IMAGE_KEPT_PLACES)
+#define PQ_IMAGE_PHASE (PQ_IMAGE_KEPT_CLIPPED + PQ_IMAGE_KEPT_PLACES)
 #define PQ_IMAGE_CHANGE (PQ_IMAGE_PHASE + 4)
 
 /* The dip, swell and interruption that stand: the value at which each began, 0 if none stands, and
@@ -117,6 +126,13 @@ enum pq_why {
 #define PQ_IMAGE_INTERRUPTION (PQ_IMAGE_SWELL + 8)
 #define PQ_IMAGE_INTERRUPTION_MAGNITUDE (PQ_IMAGE_INTERRUPTION + 4)
 
+/* The marks of these events so far: of a dip, swell or interruption over the values from its start
+ * on, of a rapid voltage change over k to V - N. */
+#define PQ_IMAGE_DIP_CLIPPED (PQ_IMAGE_INTERRUPTION + 8)
+#define PQ_IMAGE_SWELL_CLIPPED (PQ_IMAGE_DIP_CLIPPED + 4)
+#define PQ_IMAGE_INTERRUPTION_CLIPPED (PQ_IMAGE_SWELL_CLIPPED + 4)
+#define PQ_IMAGE_CHANGE_CLIPPED (PQ_IMAGE_INTERRUPTION_CLIPPED + 4)
+
 /* What the two calls return. */
 enum pq_refusal {
     PQ_OK = 0,
@@ -126,8 +142,8 @@ enum pq_refusal {
     PQ_REFUSED_DECLARED = 4,        /* settings: U */
     PQ_REFUSED_LIMIT = 5,           /* settings: T or H */
     PQ_REFUSED_LEVELS = 6,          /* settings: I, D, W or G */
-    PQ_REFUSED_IMAGE_ROOM = 7,      /* fewer than 620 bytes to write the image into */
-    PQ_REFUSED_IMAGE_LENGTH = 8,    /* an image that is not 620 bytes */
+    PQ_REFUSED_IMAGE_ROOM = 7,      /* fewer than 764 bytes to write the image into */
+    PQ_REFUSED_IMAGE_LENGTH = 8,    /* an image that is not 764 bytes; those of version 1 are 620 */
     PQ_REFUSED_IMAGE_TABLE = 9,     /* an image with another table of contents */
     PQ_REFUSED_IMAGE_SETTINGS = 10, /* an image with settings that begin refuses */
     PQ_REFUSED_IMAGE_BODY = 11,     /* an image with another body that cannot be */
@@ -135,7 +151,7 @@ enum pq_refusal {
     PQ_REFUSED_REPLY_ROOM = 13      /* fewer than 24 bytes to write the reply into */
 };
 
-/* Begins: writes the image of a channel that has taken no sample into the first 620 bytes of
+/* Begins: writes the image of a channel that has taken no sample into the first 764 bytes of
  * `image`, and leaves its further bytes.
  * Returns 0, or the first that applies of 1 to 7, in this order. */
 uint32_t pq_begin(const uint8_t *settings, size_t settings_length,
@@ -143,7 +159,7 @@ uint32_t pq_begin(const uint8_t *settings, size_t settings_length,
 
 /* Goes on from `image` with the block `samples`: signed 16-bit counts, low byte first. Takes as many
  * of the block's samples as it can, in order, and writes
- * - into `next` the image after them, 620 bytes;
+ * - into `next` the image after them, 764 bytes;
  * - into `records` the records due at the values that they complete, 20 bytes each, in order;
  * - into `reply` how many samples were taken, how many records written, and why no more.
  * Bytes behind these are left as they were. Samples that were not taken are still the caller's.
@@ -181,7 +197,8 @@ static inline void pq_put_u64(uint8_t *at, uint64_t number)
 
 /* A record as numbers; see PQ_RECORD_.. for what they mean. */
 struct pq_record {
-    uint32_t kind; /* one of enum pq_kind */
+    uint32_t kind;    /* one of enum pq_kind */
+    uint32_t clipped; /* 1 or 0 */
     uint64_t start;
     uint64_t duration;
     uint32_t first;
@@ -192,6 +209,7 @@ static inline struct pq_record pq_get_record(const uint8_t *at)
 {
     struct pq_record record;
     record.kind = at[PQ_RECORD_KIND];
+    record.clipped = at[PQ_RECORD_CLIPPED];
     record.start = pq_get_u32(at + PQ_RECORD_START);
     record.duration = pq_get_u32(at + PQ_RECORD_DURATION);
     record.first = pq_get_u32(at + PQ_RECORD_FIRST);
@@ -205,12 +223,25 @@ static inline uint32_t pq_window_length(const uint8_t *image)
     return pq_get_u32(image + PQ_IMAGE_SETTINGS + PQ_SETTINGS_SYSTEM) == 50 ? 100 : 120;
 }
 
+/* How many values an image keeps: V, and N at most. The newest one is the last of them. */
+static inline uint32_t pq_kept_values(const uint8_t *image)
+{
+    uint32_t values = pq_get_u32(image + PQ_IMAGE_VALUES), most = pq_window_length(image);
+    return values < most ? values : most;
+}
+
 /* The newest value in an image, in sixteenths of a count; 0 if there is none yet. */
 static inline uint32_t pq_newest_value(const uint8_t *image)
 {
-    uint32_t values = pq_get_u32(image + PQ_IMAGE_VALUES), most = pq_window_length(image);
-    uint32_t kept = values < most ? values : most;
+    uint32_t kept = pq_kept_values(image);
     return kept == 0 ? 0 : pq_get_u32(image + PQ_IMAGE_KEPT + 4 * (kept - 1));
+}
+
+/* Whether the newest value is clipped: 1 or 0; 0 if there is none yet. */
+static inline uint32_t pq_newest_clipped(const uint8_t *image)
+{
+    uint32_t kept = pq_kept_values(image);
+    return kept == 0 ? 0 : image[PQ_IMAGE_KEPT_CLIPPED + (kept - 1)];
 }
 
 /* What a refusal means, for a message. */
@@ -224,8 +255,8 @@ static inline const char *pq_refusal_text(uint32_t number)
     case PQ_REFUSED_DECLARED: return "settings: U, the declared voltage, is not 16 to 524288";
     case PQ_REFUSED_LIMIT: return "settings: T is not 50 to 600, or H is not below T";
     case PQ_REFUSED_LEVELS: return "settings: I, D, W or G is out of range or out of order";
-    case PQ_REFUSED_IMAGE_ROOM: return "fewer than 620 bytes to write the image into";
-    case PQ_REFUSED_IMAGE_LENGTH: return "the image is not 620 bytes";
+    case PQ_REFUSED_IMAGE_ROOM: return "fewer than 764 bytes to write the image into";
+    case PQ_REFUSED_IMAGE_LENGTH: return "the image is not 764 bytes";
     case PQ_REFUSED_IMAGE_TABLE: return "the image has another table of contents";
     case PQ_REFUSED_IMAGE_SETTINGS: return "the image has settings that are out of range";
     case PQ_REFUSED_IMAGE_BODY: return "the image has another part that cannot be";

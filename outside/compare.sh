@@ -1,7 +1,7 @@
 #!/usr/bin/env bash
 # Compares what is proved with the outside implementation: bash outside/compare.sh CASES LISTS SEED
 # So many cases go through the library for C and the event program, and so many lists of calls through `call_lists`; they are the same whenever the numbers are.
-# Fails at the first difference, and if some kind of record, why, refusal, phase or event was never seen.
+# Fails at the first difference, and if some kind of record, why, refusal, phase, event or mark was never seen.
 set -euo pipefail
 cd "$(dirname "$0")/.."
 [ $# = 3 ] || { echo "bash outside/compare.sh CASES LISTS SEED" >&2; exit 2; }

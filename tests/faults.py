@@ -3,7 +3,8 @@
 
     python3 tests/faults.py LOG [EVENT_PROGRAM]
 
-The two print the same; they differ in the bytes read at a time and in the status after a failure, which the event program does not have.
+The two print the same, but for the word behind a clipped record's line, which only the host prints; they differ in the bytes read at a time and in the status
+after a failure, which the event program does not have.
 """
 import fcntl
 import itertools
@@ -50,6 +51,16 @@ class Program:
 
     def message(self, which, error):
         return f"{self.name}: standard {which}: {TEXTS[error]}\n"
+
+
+def clipped(program):
+    """A clipped dip and one that is not: the host alone tells them apart."""
+    mark = b" clipped" if program.name == "log" else b""
+    for sample, word in (32767, mark), (-32767, b""):
+        samples = [25000] * 24 + [sample] + [15000] * 15 + [25000] * 24
+        recording = struct.pack("<9I", 8, 50, 16 * 25000, *recordings.WORKED[3:]) + struct.pack(f"<{len(samples)}h", *samples)
+        text = b"kind start halves first second\ndip 3 3 266793 0" + word + b"\nvalues 7\n"
+        same(f"{program.name}: a dip with a sample of {sample}", program.run(recording), (0, text, ""))
 
 
 def tried_again(program):
@@ -248,6 +259,7 @@ def main():
         text = example("worked")[1]
         same("log: a write is lost at the close", log.run(example("worked")[0], "close:1:EIO"), (2, text, log.message("output", "EIO")))
         for program in programs:
+            clipped(program)
             tried_again(program)
             waits(program)
             reads_fail(program)

@@ -24,50 +24,81 @@ static void same_text(const char *what, const char *want, const char *got)
     }
 }
 
+/* The first byte that differs. */
+static void same_bytes(const char *what, const uint8_t *want, const uint8_t *got, size_t length)
+{
+    size_t j = 0;
+    while (j < length && want[j] == got[j])
+        j++;
+    if (j < length) {
+        printf("different: %s: byte %zu is %d and not %d\n", what, j, got[j], want[j]);
+        differences++;
+    }
+}
+
 /* A name of pq.h is this number. */
 #define IS(name, want) same(#name, want, name)
 
-/* A channel: the image now and the next one, which change places, and the record written last. */
+/* A channel: the image now and the next one, which change places, and the records since it began. */
 static uint8_t images[2][PQ_IMAGE_SIZE];
 static int now;
-static struct pq_record last;
+static uint8_t records[8][PQ_RECORD_SIZE];
+static size_t written;
 
 static uint32_t number_at(int place)
 {
     return pq_get_u32(images[now] + place);
 }
 
-/* Settings of 8 samples in a half-cycle and a declared voltage of 100 counts. */
-static void put_settings(uint8_t *settings, uint32_t system)
+/* Settings of 8 samples in a half-cycle. */
+static void put_settings(uint8_t *settings, uint32_t system, uint32_t declared, uint32_t interruption)
 {
-    const uint32_t numbers[] = {8, system, 1600, 300, 150, 500, 9000, 11000, 200};
+    const uint32_t numbers[] = {8, system, declared, 300, 150, interruption, 9000, 11000, 200};
     for (int j = 0; j < 9; j++)
         pq_put_u32(settings + 4 * j, numbers[j]);
 }
 
-static void begin(uint32_t system)
+static void begin_with(uint32_t system, uint32_t declared, uint32_t interruption)
 {
     uint8_t settings[PQ_SETTINGS_SIZE];
-    put_settings(settings, system);
+    put_settings(settings, system, declared, interruption);
     now = 0;
+    written = 0;
+    memset(records, 0, sizeof records);
     same("begin", PQ_OK, pq_begin(settings, sizeof settings, images[0], sizeof images[0]));
 }
 
-/* Goes on with one sample after the other, all of one count. */
-static void go_on(int samples, uint8_t count)
+/* A declared voltage of 100 counts. */
+static void begin(uint32_t system)
 {
-    const uint8_t sample[PQ_SAMPLE_SIZE] = {count, 0};
-    uint8_t records[PQ_RECORDS_ENOUGH], reply[PQ_REPLY_SIZE];
-    for (int j = 0; j < samples; j++) {
-        same("advance", PQ_OK, pq_advance(images[now], PQ_IMAGE_SIZE, sample, sizeof sample, images[!now], PQ_IMAGE_SIZE,
-                                          records, sizeof records, reply, sizeof reply));
-        now = !now;
-        same("samples taken", 1, pq_get_u64(reply + PQ_REPLY_TAKEN));
-        same("why", PQ_ALL_TAKEN, pq_get_u64(reply + PQ_REPLY_WHY));
-        uint64_t written = pq_get_u64(reply + PQ_REPLY_WRITTEN);
-        if (written > 0)
-            last = pq_get_record(records + PQ_RECORD_SIZE * (written - 1));
-    }
+    begin_with(system, 1600, 500);
+}
+
+/* Goes on with a block of bytes, all of which must be taken. */
+static void advance(const uint8_t *block, size_t length)
+{
+    uint8_t reply[PQ_REPLY_SIZE] = {0};
+    same("advance", PQ_OK, pq_advance(images[now], PQ_IMAGE_SIZE, block, length, images[!now], PQ_IMAGE_SIZE,
+                                      records[written], sizeof records - PQ_RECORD_SIZE * written, reply, sizeof reply));
+    now = !now;
+    same("samples taken", length / PQ_SAMPLE_SIZE, pq_get_u64(reply + PQ_REPLY_TAKEN));
+    same("why", PQ_ALL_TAKEN, pq_get_u64(reply + PQ_REPLY_WHY));
+    written += pq_get_u64(reply + PQ_REPLY_WRITTEN);
+}
+
+/* The library is for x86-64, whose numbers have their low byte first, as samples have. */
+static void put_sample(uint8_t *at, int16_t count)
+{
+    memcpy(at, &count, sizeof count);
+}
+
+/* Goes on with one sample after the other, all of one count. */
+static void go_on(int samples, int16_t count)
+{
+    uint8_t sample[PQ_SAMPLE_SIZE];
+    put_sample(sample, count);
+    for (int j = 0; j < samples; j++)
+        advance(sample, sizeof sample);
 }
 
 /* The gatherer, the values and the events that stand, on the recording of 24 samples of 100, then others. */
@@ -119,7 +150,10 @@ static void check_change(void)
     same("change", 151, number_at(PQ_IMAGE_CHANGE));
     same("newest of a full window", 1536, pq_newest_value(images[now]));
     go_on(8 * 101, 96);
+    same("records", 1, written);
+    struct pq_record last = pq_get_record(records[0]);
     same("kind", PQ_CHANGE, last.kind);
+    same("clipped", 0, last.clipped);
     same("start", 151, last.start);
     same("duration", 1, last.duration);
     same("first", 6368, last.first);
@@ -134,12 +168,12 @@ static void check_change(void)
 
 static void check_lengths(void)
 {
-    IS(PQ_VERSION_MAJOR, 1);
+    IS(PQ_VERSION_MAJOR, 2);
     IS(PQ_VERSION_MINOR, 0);
     IS(PQ_VERSION_PATCH, 0);
-    same_text("PQ_VERSION", "1.0.0", PQ_VERSION);
+    same_text("PQ_VERSION", "2.0.0", PQ_VERSION);
     IS(PQ_SETTINGS_SIZE, 36);
-    IS(PQ_IMAGE_SIZE, 620);
+    IS(PQ_IMAGE_SIZE, 764);
     IS(PQ_SAMPLE_SIZE, 2);
     IS(PQ_RECORD_SIZE, 20);
     IS(PQ_REPLY_SIZE, 24);
@@ -158,6 +192,7 @@ static void check_places(void)
     IS(PQ_SETTINGS_SWELL, 28);
     IS(PQ_SETTINGS_HYSTERESIS, 32);
     IS(PQ_RECORD_KIND, 0);
+    IS(PQ_RECORD_CLIPPED, 1);
     IS(PQ_RECORD_START, 4);
     IS(PQ_RECORD_DURATION, 8);
     IS(PQ_RECORD_FIRST, 12);
@@ -172,17 +207,24 @@ static void check_image_places(void)
     IS(PQ_IMAGE_SETTINGS, 32);
     IS(PQ_IMAGE_COUNT, 68);
     IS(PQ_IMAGE_WHOLE, 88);
-    IS(PQ_IMAGE_VALUES, 92);
-    IS(PQ_IMAGE_KEPT, 96);
+    IS(PQ_IMAGE_HALF_CLIPPED, 92);
+    IS(PQ_IMAGE_LAST_CLIPPED, 96);
+    IS(PQ_IMAGE_VALUES, 100);
+    IS(PQ_IMAGE_KEPT, 104);
     IS(PQ_IMAGE_KEPT_PLACES, 120);
-    IS(PQ_IMAGE_PHASE, 576);
-    IS(PQ_IMAGE_CHANGE, 580);
-    IS(PQ_IMAGE_DIP, 596);
-    IS(PQ_IMAGE_DIP_MAGNITUDE, 600);
-    IS(PQ_IMAGE_SWELL, 604);
-    IS(PQ_IMAGE_SWELL_MAGNITUDE, 608);
-    IS(PQ_IMAGE_INTERRUPTION, 612);
-    IS(PQ_IMAGE_INTERRUPTION_MAGNITUDE, 616);
+    IS(PQ_IMAGE_KEPT_CLIPPED, 584);
+    IS(PQ_IMAGE_PHASE, 704);
+    IS(PQ_IMAGE_CHANGE, 708);
+    IS(PQ_IMAGE_DIP, 724);
+    IS(PQ_IMAGE_DIP_MAGNITUDE, 728);
+    IS(PQ_IMAGE_SWELL, 732);
+    IS(PQ_IMAGE_SWELL_MAGNITUDE, 736);
+    IS(PQ_IMAGE_INTERRUPTION, 740);
+    IS(PQ_IMAGE_INTERRUPTION_MAGNITUDE, 744);
+    IS(PQ_IMAGE_DIP_CLIPPED, 748);
+    IS(PQ_IMAGE_SWELL_CLIPPED, 752);
+    IS(PQ_IMAGE_INTERRUPTION_CLIPPED, 756);
+    IS(PQ_IMAGE_CHANGE_CLIPPED, 760);
 }
 
 static void check_enumerators(void)
@@ -220,8 +262,8 @@ static void check_texts(void)
         "settings: U, the declared voltage, is not 16 to 524288",
         "settings: T is not 50 to 600, or H is not below T",
         "settings: I, D, W or G is out of range or out of order",
-        "fewer than 620 bytes to write the image into",
-        "the image is not 620 bytes",
+        "fewer than 764 bytes to write the image into",
+        "the image is not 764 bytes",
         "the image has another table of contents",
         "the image has settings that are out of range",
         "the image has another part that cannot be",
@@ -248,35 +290,38 @@ static void check_refused_settings(void)
     };
     uint8_t settings[PQ_SETTINGS_SIZE], image[PQ_IMAGE_SIZE];
     for (size_t j = 0; j < sizeof wrong / sizeof wrong[0]; j++) {
-        put_settings(settings, 50);
+        put_settings(settings, 50, 1600, 500);
         same("settings", PQ_OK, pq_begin(settings, sizeof settings, image, sizeof image));
         pq_put_u32(settings + wrong[j].place, wrong[j].number);
         same("refused settings", wrong[j].refusal, pq_begin(settings, sizeof settings, image, sizeof image));
     }
     same("short settings", PQ_REFUSED_SETTINGS_LENGTH, pq_begin(settings, PQ_SETTINGS_SIZE - 1, image, sizeof image));
-    put_settings(settings, 50);
+    put_settings(settings, 50, 1600, 500);
     same("little room", PQ_REFUSED_IMAGE_ROOM, pq_begin(settings, sizeof settings, image, PQ_IMAGE_SIZE - 1));
 }
 
 /* What an advance answers to an image with one number changed, and to these lengths. */
 static uint32_t answer(int place, uint32_t number, size_t image_length, size_t samples_length, size_t next_length, size_t reply_length)
 {
-    uint8_t samples[PQ_SAMPLE_SIZE] = {0}, records[PQ_RECORDS_ENOUGH], reply[PQ_REPLY_SIZE];
+    uint8_t image[PQ_IMAGE_SIZE + 1] = {0}, samples[PQ_SAMPLE_SIZE] = {0}, reply[PQ_REPLY_SIZE];
     begin(50);
-    pq_put_u32(images[0] + place, number);
-    return pq_advance(images[0], image_length, samples, samples_length, images[1], next_length, records, sizeof records, reply, reply_length);
+    memcpy(image, images[0], PQ_IMAGE_SIZE);
+    pq_put_u32(image + place, number);
+    return pq_advance(image, image_length, samples, samples_length, images[1], next_length, records[0], sizeof records, reply, reply_length);
 }
 
 static void check_refused_calls(void)
 {
-    same("as it is", PQ_OK, answer(PQ_IMAGE_COUNT, 0, 620, 2, 620, 24));
-    same("short image", PQ_REFUSED_IMAGE_LENGTH, answer(PQ_IMAGE_COUNT, 0, 619, 2, 620, 24));
-    same("another table", PQ_REFUSED_IMAGE_TABLE, answer(0, 0, 620, 2, 620, 24));
-    same("other settings", PQ_REFUSED_IMAGE_SETTINGS, answer(PQ_IMAGE_SETTINGS, 7, 620, 2, 620, 24));
-    same("another body", PQ_REFUSED_IMAGE_BODY, answer(PQ_IMAGE_COUNT, 8, 620, 2, 620, 24));
-    same("odd samples", PQ_REFUSED_ODD_SAMPLES, answer(PQ_IMAGE_COUNT, 0, 620, 1, 620, 24));
-    same("little room for the image", PQ_REFUSED_IMAGE_ROOM, answer(PQ_IMAGE_COUNT, 0, 620, 2, 619, 24));
-    same("little room for the reply", PQ_REFUSED_REPLY_ROOM, answer(PQ_IMAGE_COUNT, 0, 620, 2, 620, 23));
+    same("as it is", PQ_OK, answer(PQ_IMAGE_COUNT, 0, 764, 2, 764, 24));
+    same("short image", PQ_REFUSED_IMAGE_LENGTH, answer(PQ_IMAGE_COUNT, 0, 763, 2, 764, 24));
+    same("long image", PQ_REFUSED_IMAGE_LENGTH, answer(PQ_IMAGE_COUNT, 0, 765, 2, 764, 24));
+    same("an image of version 1", PQ_REFUSED_IMAGE_LENGTH, answer(PQ_IMAGE_COUNT, 0, 620, 2, 764, 24));
+    same("another table", PQ_REFUSED_IMAGE_TABLE, answer(0, 0, 764, 2, 764, 24));
+    same("other settings", PQ_REFUSED_IMAGE_SETTINGS, answer(PQ_IMAGE_SETTINGS, 7, 764, 2, 764, 24));
+    same("another body", PQ_REFUSED_IMAGE_BODY, answer(PQ_IMAGE_COUNT, 8, 764, 2, 764, 24));
+    same("odd samples", PQ_REFUSED_ODD_SAMPLES, answer(PQ_IMAGE_COUNT, 0, 764, 1, 764, 24));
+    same("little room for the image", PQ_REFUSED_IMAGE_ROOM, answer(PQ_IMAGE_COUNT, 0, 764, 2, 763, 24));
+    same("little room for the reply", PQ_REFUSED_REPLY_ROOM, answer(PQ_IMAGE_COUNT, 0, 764, 2, 764, 23));
 }
 
 /* A record of the bytes 0, 1, 2, .. */
@@ -287,10 +332,353 @@ static void check_record(void)
         bytes[j] = j;
     struct pq_record record = pq_get_record(bytes);
     same("kind", 0, record.kind);
+    same("clipped", 1, record.clipped);
     same("start", 0x07060504, record.start);
     same("duration", 0x0b0a0908, record.duration);
     same("first", 0x0f0e0d0c, record.first);
     same("second", 0x13121110, record.second);
+}
+
+/* Clipped samples: a recording that is put together here and fed in blocks. */
+static uint8_t recording[PQ_SAMPLE_SIZE * 8 * 253];
+static size_t recorded;
+
+static void add(size_t samples, int16_t count)
+{
+    for (; samples > 0; samples--, recorded += PQ_SAMPLE_SIZE)
+        put_sample(recording + recorded, count);
+}
+
+/* Replaces one of the samples, counted from 0, of half-cycle `half`, counted from 1. */
+static void replace(size_t half, size_t sample, int16_t count)
+{
+    put_sample(recording + PQ_SAMPLE_SIZE * (8 * (half - 1) + sample), count);
+}
+
+/* Goes on with the half-cycles `from` to `to`, so many samples at a time. */
+static void feed(size_t from, size_t to, size_t samples)
+{
+    size_t at = PQ_SAMPLE_SIZE * 8 * (from - 1), end = PQ_SAMPLE_SIZE * 8 * to, block = PQ_SAMPLE_SIZE * samples;
+    for (; at + block < end; at += block)
+        advance(recording + at, block);
+    advance(recording + at, end - at);
+}
+
+/* Three half-cycles of 25000, two of another level, three of 25000. */
+static void put_event(int16_t level)
+{
+    recorded = 0;
+    add(8 * 3, 25000);
+    add(8 * 2, level);
+    add(8 * 3, 25000);
+}
+
+/* 150 half-cycles of 32000, then 51 of one level and 52 of another: a change from value 151 on. */
+static void put_change(int16_t level, int16_t later)
+{
+    recorded = 0;
+    add(8 * 150, 32000);
+    add(8 * 51, level);
+    add(8 * 52, later);
+}
+
+/* A dip with a sample at an end of the range, or beside it: the record's bytes. */
+static void check_clipped_dip(void)
+{
+    static const struct { int16_t count; uint8_t clipped, lowest; } dips[] = {
+        {32767, 1, 0x29}, {-32767, 0, 0x29}, {-32768, 1, 0x2b}, {32766, 0, 0x27},
+    };
+    for (size_t j = 0; j < sizeof dips / sizeof dips[0]; j++) {
+        const uint8_t want[] = {1, dips[j].clipped, 0, 0, 3, 0, 0, 0, 3, 0, 0, 0, dips[j].lowest, 0x12, 0x04, 0, 0, 0, 0, 0};
+        put_event(15000);
+        replace(4, 0, dips[j].count);
+        for (size_t samples = 1; samples <= 64; samples++) {
+            begin_with(50, 400000, 500);
+            feed(1, 8, samples);
+            same("a dip's records", 1, written);
+            same_bytes("a dip's record", want, records[0], sizeof want);
+        }
+    }
+}
+
+/* Puts the channel into that dip, four samples after a half-cycle, with the last of them clipped. */
+static void begin_in_dip(void)
+{
+    put_event(15000);
+    replace(4, 0, 32767);
+    replace(7, 3, 32767);
+    begin_with(50, 400000, 500);
+    feed(1, 6, 48);
+    advance(recording + PQ_SAMPLE_SIZE * 8 * 6, PQ_SAMPLE_SIZE * 4);
+}
+
+/* The image of that channel, byte by byte. */
+static void check_clipped_image(void)
+{
+    static const uint8_t table[] = {
+        1, 0, 0, 0, 32, 0, 36, 0, 2, 0, 0, 0, 68, 0, 32, 0, 3, 0, 0, 0, 100, 0, 0x5c, 0x02, 4, 0, 0, 0, 0xc0, 0x02, 60, 0,
+    };
+    static const uint32_t values[] = {400000, 400000, 349826, 266793, 329848};
+    uint8_t want[764] = {0};
+    memcpy(want, table, sizeof table);
+    put_settings(want + 32, 50, 400000, 500);
+    want[68] = 4;
+    pq_put_u64(want + 72, 2948676289);
+    pq_put_u64(want + 80, 5000000000);
+    want[88] = 1;
+    want[92] = 1; /* the half-cycle in progress is clipped, the last one is not */
+    want[100] = 5;
+    for (size_t j = 0; j < 5; j++)
+        pq_put_u32(want + 104 + 4 * j, values[j]);
+    want[584 + 2] = want[584 + 3] = 1;
+    want[724] = 3;
+    pq_put_u32(want + 728, 266793);
+    want[748] = 1;
+    begin_in_dip();
+    same_bytes("an image with marks", want, images[now], sizeof want);
+    same("the newest value's mark", 0, pq_newest_clipped(images[now]));
+
+    begin_with(50, 400000, 500);
+    same("the mark of no value", 0, pq_newest_clipped(images[now]));
+    feed(1, 4, 8);
+    same("the newest value's mark, clipped", 1, pq_newest_clipped(images[now]));
+    same("the last half-cycle's mark", 1, number_at(PQ_IMAGE_LAST_CLIPPED));
+    same("the mark of no sample", 0, number_at(PQ_IMAGE_HALF_CLIPPED));
+    same("values kept", 3, pq_kept_values(images[now]));
+}
+
+/* A clipped sample in each half-cycle in turn: whether it marks the event when value 4 is there, and whether it marks the record.
+ * Value i is half-cycles i and i + 1; the dip and the swell are values 3 to 5, the interruption is value 4. */
+static void check_event_marks(void)
+{
+    static const struct { int16_t level; uint32_t records, record, kind; int place; const char *running, *marks; } events[] = {
+        {15000, 2, 0, PQ_INTERRUPTION, PQ_IMAGE_INTERRUPTION_CLIPPED, "00011000", "00011000"},
+        {15000, 2, 1, PQ_DIP, PQ_IMAGE_DIP_CLIPPED, "00111000", "00111100"},
+        {30000, 1, 0, PQ_SWELL, PQ_IMAGE_SWELL_CLIPPED, "00111000", "00111100"},
+    };
+    for (size_t j = 0; j < sizeof events / sizeof events[0]; j++)
+        for (size_t half = 1; half <= 8; half++)
+            for (size_t sample = 0; sample < 8; sample++) {
+                put_event(events[j].level);
+                replace(half, sample, sample % 2 == 0 ? 32767 : -32768);
+                begin_with(50, 400000, 8000);
+                feed(1, 5, 1 + 3 * sample);
+                same("an event's mark so far", events[j].running[half - 1] == '1', number_at(events[j].place));
+                feed(6, 8, 1 + 3 * sample);
+                same("no event's mark", 0, number_at(events[j].place));
+                same("records of events", events[j].records, written);
+                struct pq_record record = pq_get_record(records[events[j].record]);
+                same("an event's kind", events[j].kind, record.kind);
+                same("an event's mark", events[j].marks[half - 1] == '1', record.clipped);
+            }
+}
+
+/* The same of a change: k is value 151 and m value 252, so that values 151 and 152 count. Then one that goes on: its mark so far. */
+static void check_change_marks(void)
+{
+    for (size_t half = 1; half <= 253; half++) {
+        put_change(30720, 30720);
+        replace(half, half % 8, 32767);
+        begin_with(50, 512000, 500);
+        feed(1, 253, 1000);
+        struct pq_record record = pq_get_record(records[0]);
+        same("a change's records", 1, written);
+        same("a change's kind", PQ_CHANGE, record.kind);
+        same("a change's start", 151, record.start);
+        same("a change's duration", 1, record.duration);
+        same("a change's mark", half >= 151 && half <= 153, record.clipped);
+        same("no change's mark", 0, number_at(PQ_IMAGE_CHANGE_CLIPPED));
+
+        put_change(30080, 31360);
+        replace(half, half % 8, 32767);
+        begin_with(50, 512000, 500);
+        feed(1, 251, 1000);
+        same("a change's mark before k + N", 0, number_at(PQ_IMAGE_CHANGE_CLIPPED));
+        feed(252, 252, 1000);
+        same("a change's mark at k + N", half == 151 || half == 152, number_at(PQ_IMAGE_CHANGE_CLIPPED));
+        feed(253, 253, 1000);
+        same("a change's mark at k + N + 1", half >= 151 && half <= 153, number_at(PQ_IMAGE_CHANGE_CLIPPED));
+        same("a change that goes on", 3, number_at(PQ_IMAGE_PHASE));
+    }
+}
+
+/* What an advance answers to the image with a mark of so many bytes. If it refuses, it has written nothing, else the same image. */
+static void check_mark(const char *what, int place, int width, uint32_t mark, uint32_t want)
+{
+    uint8_t image[PQ_IMAGE_SIZE], next[PQ_IMAGE_SIZE + 1], due[PQ_RECORDS_ENOUGH], reply[PQ_REPLY_SIZE + 1], left[PQ_IMAGE_SIZE + 1];
+    memcpy(image, images[now], sizeof image);
+    for (int j = 0; j < width; j++, mark >>= 8)
+        image[place + j] = mark & 0xff;
+    memset(next, 0xa5, sizeof next);
+    memset(due, 0xa5, sizeof due);
+    memset(reply, 0xa5, sizeof reply);
+    memset(left, 0xa5, sizeof left);
+    size_t samples = want == PQ_OK ? 0 : sizeof recording;
+    same(what, want, pq_advance(image, sizeof image, recording, samples, next, sizeof next, due, sizeof due, reply, sizeof reply));
+    if (want == PQ_OK)
+        memcpy(left, image, sizeof image);
+    same_bytes(what, left, next, sizeof next);
+    memset(left, 0xa5, sizeof left);
+    same_bytes(what, left, due, sizeof due);
+    if (want != PQ_OK)
+        same_bytes(what, left, reply, sizeof reply);
+}
+
+/* A mark that is in use is 0 or 1. */
+static void used(const char *what, int place, int width)
+{
+    check_mark(what, place, width, 0, PQ_OK);
+    check_mark(what, place, width, 1, PQ_OK);
+    for (int bit = 1; bit < 8 * width; bit++)
+        check_mark(what, place, width, UINT32_C(1) << bit, PQ_REFUSED_IMAGE_BODY);
+}
+
+/* One that is not is 0. */
+static void unused(const char *what, int place, int width)
+{
+    check_mark(what, place, width, 0, PQ_OK);
+    check_mark(what, place, width, 1, PQ_REFUSED_IMAGE_BODY);
+}
+
+/* The marks of so many values are in use, and no others. */
+static void used_values(const char *what, int values)
+{
+    for (int j = 0; j < values; j++)
+        used(what, PQ_IMAGE_KEPT_CLIPPED + j, 1);
+    for (int j = values; j < PQ_IMAGE_KEPT_PLACES; j++)
+        unused(what, PQ_IMAGE_KEPT_CLIPPED + j, 1);
+}
+
+/* Refusal 11 by a mark: each rule broken alone, and what is accepted beside it. No mark is compared with values or sums. */
+static void check_mark_rules(void)
+{
+    begin_with(50, 400000, 500);
+    unused("the half-cycle in progress, no sample", PQ_IMAGE_HALF_CLIPPED, 4);
+    unused("the last half-cycle, none", PQ_IMAGE_LAST_CLIPPED, 4);
+    used_values("no value", 0);
+    go_on(1, 0);
+    used("the half-cycle in progress, one sample", PQ_IMAGE_HALF_CLIPPED, 4);
+    unused("the last half-cycle, still none", PQ_IMAGE_LAST_CLIPPED, 4);
+    go_on(7, 0);
+    unused("the half-cycle in progress, no sample again", PQ_IMAGE_HALF_CLIPPED, 4);
+    used("the last half-cycle", PQ_IMAGE_LAST_CLIPPED, 4);
+    used_values("a half-cycle and no value", 0);
+
+    go_on(8, 25000);
+    for (int event = 0; event < 3; event++) {
+        int start = PQ_IMAGE_DIP + 8 * event, mark = PQ_IMAGE_DIP_CLIPPED + 4 * event;
+        memset(images[now] + PQ_IMAGE_DIP, 0, PQ_IMAGE_SIZE - PQ_IMAGE_DIP);
+        unused("an event that does not stand", mark, 4);
+        pq_put_u32(images[now] + start, 1);
+        used("an event that stands", mark, 4);
+        for (int other = 0; other < 3; other++)
+            if (other != event)
+                unused("an event beside one that stands", PQ_IMAGE_DIP_CLIPPED + 4 * other, 4);
+    }
+    begin_in_dip();
+    used("the half-cycle in progress, four samples", PQ_IMAGE_HALF_CLIPPED, 4);
+    used("the last half-cycle, in a dip", PQ_IMAGE_LAST_CLIPPED, 4);
+    used("a dip", PQ_IMAGE_DIP_CLIPPED, 4);
+    used_values("five values", 5);
+    unused("a change, phase 0", PQ_IMAGE_CHANGE_CLIPPED, 4);
+
+    put_change(30720, 30720);
+    begin_with(50, 512000, 500);
+    feed(1, 150, 1000);
+    unused("a change, phase 2", PQ_IMAGE_CHANGE_CLIPPED, 4);
+    pq_put_u32(images[now] + PQ_IMAGE_PHASE, 1);
+    unused("a change, phase 1", PQ_IMAGE_CHANGE_CLIPPED, 4);
+    pq_put_u32(images[now] + PQ_IMAGE_PHASE, 2);
+    feed(151, 251, 1000);
+    same("values before k + N", 250, number_at(PQ_IMAGE_VALUES));
+    unused("a change before k + N", PQ_IMAGE_CHANGE_CLIPPED, 4);
+    feed(252, 252, 1000);
+    used("a change at k + N", PQ_IMAGE_CHANGE_CLIPPED, 4);
+    used_values("more than N values", 100);
+    memset(images[now] + PQ_IMAGE_CHANGE + 8, 0, 4); /* the greatest difference */
+    pq_put_u32(images[now] + PQ_IMAGE_VALUES, UINT32_MAX);
+    pq_put_u32(images[now] + PQ_IMAGE_CHANGE, UINT32_MAX - 100);
+    used("a change at k + N, the last value", PQ_IMAGE_CHANGE_CLIPPED, 4);
+    pq_put_u32(images[now] + PQ_IMAGE_CHANGE, UINT32_MAX - 99);
+    unused("a change before k + N, which passes 4 bytes", PQ_IMAGE_CHANGE_CLIPPED, 4);
+    begin(60);
+    go_on(8 * 122, 100);
+    used_values("more than N values at 60 Hz", 120);
+}
+
+/* Events of samples that are not clipped, with a mark put into the image at value 4, where they stand: their record has it, and no other record has. */
+static void check_held_events(void)
+{
+    static const struct { int16_t level; uint32_t records, record, kind; int place; } events[] = {
+        {15000, 2, 0, PQ_INTERRUPTION, PQ_IMAGE_INTERRUPTION_CLIPPED},
+        {15000, 2, 1, PQ_DIP, PQ_IMAGE_DIP_CLIPPED},
+        {30000, 1, 0, PQ_SWELL, PQ_IMAGE_SWELL_CLIPPED},
+    };
+    for (size_t j = 0; j < sizeof events / sizeof events[0]; j++)
+        for (uint8_t mark = 0; mark < 2; mark++) {
+            put_event(events[j].level);
+            begin_with(50, 400000, 8000);
+            feed(1, 5, 8);
+            same("an event's own mark", 0, number_at(events[j].place));
+            images[now][events[j].place] = mark;
+            feed(6, 8, 8);
+            same("an event's records, held", events[j].records, written);
+            for (uint32_t record = 0; record < events[j].records; record++)
+                same("an event's mark, held", record == events[j].record ? mark : 0, records[record][PQ_RECORD_CLIPPED]);
+            same("an event's kind, held", events[j].kind, records[events[j].record][PQ_RECORD_KIND]);
+            same("no event's mark, held", 0, number_at(events[j].place));
+        }
+}
+
+/* A change, with the mark of a kept value or, at k + N, its own. */
+static void check_held_changes(void)
+{
+    for (int value = 151; value <= 153; value++) {
+        put_change(30720, 30720);
+        begin_with(50, 512000, 500);
+        feed(1, 251, 1000);
+        images[now][PQ_IMAGE_KEPT_CLIPPED + value - 151] = 1;
+        feed(252, 253, 1000);
+        same("a change's records, held", 1, written);
+        same("a change's mark, of a value that is held clipped", value <= 152, pq_get_record(records[0]).clipped);
+    }
+    for (uint8_t mark = 0; mark < 2; mark++) {
+        put_change(30720, 30720);
+        begin_with(50, 512000, 500);
+        feed(1, 252, 1000);
+        same("a change's own mark", 0, number_at(PQ_IMAGE_CHANGE_CLIPPED));
+        images[now][PQ_IMAGE_CHANGE_CLIPPED] = mark;
+        feed(253, 253, 1000);
+        same("a change's records, its mark held", 1, written);
+        same("a change's kind, its mark held", PQ_CHANGE, pq_get_record(records[0]).kind);
+        same("a change's mark, held", mark, pq_get_record(records[0]).clipped);
+        same("no change's mark, held", 0, number_at(PQ_IMAGE_CHANGE_CLIPPED));
+    }
+}
+
+/* From an image that no recording gives, marks go on as they stand there. */
+static void check_held_marks(void)
+{
+    begin_with(50, 400000, 500);
+    go_on(1, 25000);
+    images[now][PQ_IMAGE_HALF_CLIPPED] = 1;
+    go_on(15, 25000);
+    same("a value of a half-cycle that is held clipped", 1, pq_newest_clipped(images[now]));
+    go_on(8, 25000);
+    same("the value after it", 0, pq_newest_clipped(images[now]));
+    images[now][PQ_IMAGE_LAST_CLIPPED] = 1;
+    go_on(8, 25000);
+    same("a value of a last half-cycle that is held clipped", 1, pq_newest_clipped(images[now]));
+
+    for (uint8_t mark = 0; mark < 2; mark++) {
+        begin_in_dip();
+        images[now][PQ_IMAGE_DIP_CLIPPED] = mark;
+        go_on(4, 25000);
+        same("a dip's records, held", 1, written);
+        same("a dip's mark, held", mark, pq_get_record(records[0]).clipped);
+    }
+    check_held_events();
+    check_held_changes();
 }
 
 /* Numbers in bytes. */
@@ -317,5 +705,11 @@ int main(void)
     check_refused_calls();
     check_events();
     check_change();
+    check_clipped_dip();
+    check_clipped_image();
+    check_event_marks();
+    check_change_marks();
+    check_mark_rules();
+    check_held_marks();
     return differences > 0;
 }

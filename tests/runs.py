@@ -76,5 +76,5 @@ class Channel:
     def numbers(self):
         """Samples taken and bytes of LOG that STATE counts; 0, 0 without a STATE."""
         state = read(self.state)
-        assert len(state) in (0, 652), len(state)
-        return (int.from_bytes(state[620:628], "little"), int.from_bytes(state[628:636], "little")) if state else (0, 0)
+        assert len(state) in (0, 796), len(state)
+        return (int.from_bytes(state[764:772], "little"), int.from_bytes(state[772:780], "little")) if state else (0, 0)

@@ -1,7 +1,8 @@
 /* log: logs one voltage channel through the two calls of pq.h.
  *
  *   log                 settings, then samples, from standard input; prints what the event program
- *                       prints: heading, records, count of values
+ *                       prints: heading, records, count of values; and behind the line of a record
+ *                       that is marked the word 'clipped', which that program does not print
  *   log STATE LOG [N]   the same into the file LOG, with the channel kept in the file STATE. Where
  *                       there is a STATE the run goes on from it, else it begins with the settings.
  *                       It takes N samples at most
@@ -17,9 +18,10 @@
  * values, comes at the end of the input and is not counted in STATE, so that a run with more input
  * cuts it too.
  *
- * A run changes nothing where STATE is damaged, where LOG does not begin with the lines that STATE
- * counts, where there is a LOG with something in it and no STATE, and where another run has LOG. Which
- * STATE, LOG and recording belong together is the caller's to know where lines and settings are alike.
+ * A run changes nothing where STATE is damaged or of a version with another image, where LOG does not
+ * begin with the lines that STATE counts, where there is a LOG with something in it and no STATE, and
+ * where another run has LOG. Which STATE, LOG and recording belong together is the caller's to know
+ * where lines and settings are alike.
  *
  * A regular file as standard input is read from its first byte on when a run begins; one that goes on
  * takes it up behind the samples taken so far, and stops if its settings are others or it has fewer
@@ -53,14 +55,16 @@
 enum {
     BLOCK = 4096, /* bytes of samples that are read at a time */
     ROOM = 8 * PQ_RECORD_SIZE,
-    LINE = 100,   /* enough for a kind of 12 letters and four numbers of 20 digits */
+    LINE = 120,   /* enough for a kind of 12 letters, four numbers of 20 digits and the mark's word */
 
     /* STATE: the image, then four numbers of 8 bytes. */
     STATE_TAKEN = PQ_IMAGE_SIZE,
     STATE_LENGTH = STATE_TAKEN + 8,
     STATE_LINES_SUM = STATE_LENGTH + 8,
     STATE_SUM = STATE_LINES_SUM + 8, /* of all the bytes before it */
-    STATE_SIZE = STATE_SUM + 8
+    STATE_SIZE = STATE_SUM + 8,
+    STATE_NUMBERS = STATE_SIZE - PQ_IMAGE_SIZE,
+    STATE_MOST = 4096 /* of any version; a longer one counts as damaged */
 };
 
 /* So many samples have a place in a file, which is an off_t. */
@@ -215,8 +219,9 @@ static void put_records(struct meter *meter, const uint8_t *records, uint64_t co
     static const char *const kinds[] = {"", "dip", "swell", "interruption", "rvc"};
     for (; count > 0; count--, records += PQ_RECORD_SIZE) {
         struct pq_record record = pq_get_record(records);
-        put_line(meter, "%s %" PRIu64 " %" PRIu64 " %" PRIu32 " %" PRIu32 "\n", kinds[record.kind],
-                 record.start, record.duration, record.first, record.second);
+        put_line(meter, "%s %" PRIu64 " %" PRIu64 " %" PRIu32 " %" PRIu32 "%s\n", kinds[record.kind],
+                 record.start, record.duration, record.first, record.second,
+                 record.clipped ? " clipped" : "");
     }
 }
 
@@ -325,10 +330,11 @@ static void begin(struct meter *meter)
 }
 
 /* Takes the channel from STATE, if there is one. An advance with no samples says whether its image
- * is good. */
+ * is good: one of another version, shorter or longer, before the same four numbers, is refused by its
+ * length. */
 static bool load(struct meter *meter)
 {
-    uint8_t state[STATE_SIZE + 1], reply[PQ_REPLY_SIZE], none[1] = {0};
+    uint8_t state[STATE_MOST + 1], reply[PQ_REPLY_SIZE], none[1] = {0};
     int file = open(meter->state, O_RDONLY);
     if (file < 0 && errno == ENOENT)
         return false;
@@ -336,12 +342,12 @@ static bool load(struct meter *meter)
         fail(meter->state);
     size_t length = read_all(file, state, sizeof state, meter->state);
     close_file(file, meter->state);
-    if (length != STATE_SIZE
-        || checksum(SUM_OF_NONE, state, STATE_SUM) != pq_get_u64(state + STATE_SUM))
+    if (length < STATE_NUMBERS || length > STATE_MOST
+        || checksum(SUM_OF_NONE, state, length - 8) != pq_get_u64(state + length - 8))
         stop("%s: damaged", meter->state);
 
-    uint32_t number = pq_advance(state, PQ_IMAGE_SIZE, none, 0, meter->images[0], PQ_IMAGE_SIZE,
-                                 none, 0, reply, sizeof reply);
+    uint32_t number = pq_advance(state, length - STATE_NUMBERS, none, 0,
+                                 meter->images[0], PQ_IMAGE_SIZE, none, 0, reply, sizeof reply);
     if (number != PQ_OK)
         refuse(number);
     meter->taken = pq_get_u64(state + STATE_TAKEN);

@@ -30,7 +30,7 @@ with() {
 sealed() {
     python3 -c '
 import sys
-state, sum = sys.stdin.buffer.read()[:644], 14695981039346656037
+state, sum = sys.stdin.buffer.read()[:-8], 14695981039346656037
 for byte in state:
     sum = (sum ^ byte) * 1099511628211 % 2**64
 sys.stdout.buffer.write(state + sum.to_bytes(8, "little"))'
@@ -38,7 +38,7 @@ sys.stdout.buffer.write(state + sum.to_bytes(8, "little"))'
 
 # taken: samples taken, in STATE; nothing without a STATE.
 taken() {
-    if [ -f "$state" ]; then od -An -tu8 -j620 -N8 "$state" | tr -d ' '; fi
+    if [ -f "$state" ]; then od -An -tu8 -j764 -N8 "$state" | tr -d ' '; fi
 }
 
 # ends NAME STATUS OUTPUT MESSAGE WORDS..: standard input to the command in LOG, which must end with this status, print only this and say this.
@@ -108,6 +108,18 @@ goes_on() {
     kept "$1: worked, of which others have read" worked
 }
 
+# clipped NAME: the marked records, and no others, have the word behind their line; also handed over after the numbers of samples in CLIPPED.
+clipped() {
+    "${LOG[@]}" <"$work/clipped.bin" >"$work/got"
+    same "$1: clipped" "$work/clipped.txt" "$work/got"
+    for cut in "${CLIPPED[@]}"; do
+        rm -f "$state" "$log"
+        "${LOG[@]}" "$state" "$log" "$cut" <"$work/clipped.bin"
+        "${LOG[@]}" "$state" "$log" <"$work/clipped.bin"
+        same "$1: clipped, handed over after $cut samples" "$work/clipped.txt" "$log"
+    done
+}
+
 # refuses NAME: settings and words that are refused.
 refuses() {
     head -c 35 worked.bin >"$work/settings"
@@ -161,7 +173,7 @@ refuses_state() {
     anew
     for edit in "${DAMAGE[@]}"; do
         case $edit in
-            short) head -c 651 "$work/good" ;;
+            short) head -c 795 "$work/good" ;;
             long) cat "$work/good" - <<<'' ;;
             empty) ;;
             numbers) head -c 32 "$work/good" ;;
@@ -178,12 +190,23 @@ refuses_state() {
 0:\02\0\0\0 9 the image has another table of contents
 36:\0\0\0\0 10 the image has settings that are out of range
 68:\010\0\0\0 11 the image has another part that cannot be
+92:\01\0\0\0 11 the image has another part that cannot be
 END
+    # A STATE of version 1, whose images have 620 bytes; with images of other lengths, 4064 at most; and one too long.
+    { head -c 764 "$work/good"; head -c 3300 /dev/zero; } >"$work/long image"
+    for length in 620 0 763 765 4064; do
+        { head -c "$length" "$work/long image"; tail -c 32 "$work/good"; } | sealed >"$state"
+        cp "$state" "$work/state before"
+        ends "$1: STATE with an image of $length bytes" 1 'refused 8\n' 'log: refused: the image is not 764 bytes\n' "$state" "$log" <worked.bin
+        left "$1: STATE with an image of $length bytes"
+    done
+    { cat "$work/good"; head -c 3301 /dev/zero; } | sealed >"$state"
+    stops "$1: STATE with 4097 bytes" "$state: damaged" "$state" "$log" <worked.bin
     # 4611686018427387885 samples end at the last byte that a file can have.
-    with 624 '\0377\0377\0377\077' "$work/good" >"$work/many"
-    with 620 '\0355\0377\0377\0377' "$work/many" | sealed >"$state"
+    with 768 '\0377\0377\0377\077' "$work/good" >"$work/many"
+    with 764 '\0355\0377\0377\0377' "$work/many" | sealed >"$state"
     stops "$1: most samples" "standard input: fewer samples than $state counts" "$state" "$log" <worked.bin
-    with 620 '\0356\0377\0377\0377' "$work/many" | sealed >"$state"
+    with 764 '\0356\0377\0377\0377' "$work/many" | sealed >"$state"
     stops "$1: one sample more" "$state: more samples than a file can have" "$state" "$log" <worked.bin
 }
 
@@ -197,7 +220,7 @@ refuses_log() {
     tail -c +2 busy.txt >"$log"
     stops "$1: another LOG" "$log: not the lines that $state counts" "$state" "$log" <worked.bin
     cp "$work/counted" "$log"
-    with 628 "\\0$(printf %o $(($(wc -c <"$log") + 1)))\\0\\0\\0" "$work/good" | sealed >"$state"
+    with 772 "\\0$(printf %o $(($(wc -c <"$log") + 1)))\\0\\0\\0" "$work/good" | sealed >"$state"
     stops "$1: LOG one byte too short" "$log: not the lines that $state counts" "$state" "$log" <worked.bin
     cp "$work/good" "$state"
     rm "$log"
@@ -288,8 +311,8 @@ at_once() {
 values_end() {
     rm -f "$state" "$log"
     "${LOG[@]}" "$state" "$log" 16 <worked.bin
-    with 92 '\0377\0377\0377\0377' "$state" >"$work/most"
-    with 576 '\01\0\0\0' "$work/most" | sealed >"$state"
+    with 100 '\0377\0377\0377\0377' "$state" >"$work/most"
+    with 704 '\01\0\0\0' "$work/most" | sealed >"$state"
     { cat "$log"; echo "values 4294967295"; } >"$work/want"
     for run in first second; do
         ends "$1: the values' end, $run run" 3 '' 'log: the count of values is at its end: further samples are not taken\n' "$state" "$log" <worked.bin
@@ -313,18 +336,38 @@ nm -g "$LIBRARY" | awk 'NF > 1 && !/ (T pq_(begin|advance)|U mem(cpy|move|set))$
 echo "same: names of the library"
 size "$LIBRARY" | awk 'NR > 1 && $2 + $3 > 0 { print "data: " $0; data = 1 } END { exit data }'
 echo "same: the library has no data of its own"
+# The size that docs/INTEGRATION.md promises: code and constants, in bytes.
+size "$LIBRARY" | awk 'NR > 1 { sum += $1 } END { if (sum == 0 || sum > 20000) { print "size: " sum; exit 1 } }'
+echo "same: the library is within its bound"
 
 # The stack that docs/INTEGRATION.md promises, in bytes.
 gcc -std=c99 -Wall -Wextra -Werror -O2 -I../include -Wl,-z,now ../bench/stack.c "$LIBRARY" -o "$work/stack"
-"$work/stack" | awk '{ used = $(NF - 1) } used > (/^begin/ ? 2560 : 6144) { print "stack: " $0; over = 1 } END { exit over || NR == 0 }'
+"$work/stack" | awk '{ used = $(NF - 1) } used > (/^begin/ ? 2816 : 7168) { print "stack: " $0; over = 1 } END { exit over || NR == 0 }'
 echo "same: the stack is within its bounds"
 
 # stored: the lines of log as the code in the document prints them.
 stored() {
     awk 'BEGIN { kinds["dip"] = 1; kinds["swell"] = 2; kinds["interruption"] = 3; kinds["rvc"] = 4; n = 100 }
          $1 in kinds { unit = 0.020 / 16 / ($1 == "rvc" ? n : 1)
-                       printf "kind %d, at %.2f s, for %.2f s: %.1f V, %.1f V\n", kinds[$1], ($2 - 1) / n, $3 / n, $4 * unit, $5 * unit }'
+                       mark = $6 == "clipped" ? ", clipped" : ""
+                       printf "kind %d, at %.2f s, for %.2f s: %.1f V, %.1f V%s\n", kinds[$1], ($2 - 1) / n, $3 / n, $4 * unit, $5 * unit, mark }'
 }
+
+# Three dips of 60 % in a supply of 25000 counts, each with one sample at an end of the range or beside it, and a swell of 120 % with one.
+python3 -B -c '
+import recordings, sys
+settings = recordings.WORKED[:2] + (16 * 25000,) + recordings.WORKED[3:]
+events = [(32767, 15000), (-32767, 15000), (-32768, 15000), (32767, 30000)]
+samples = [x for sample, level in events for x in [25000] * 24 + [sample] + [level] * 15]
+recordings.write(sys.argv[1], "clipped.bin", settings, samples + [25000] * 24)' "$work"
+cat >"$work/clipped.txt" <<'END'
+kind start halves first second
+dip 3 3 266793 0 clipped
+dip 8 3 266793 0
+dip 13 3 266795 0 clipped
+swell 18 3 482885 0 clipped
+values 22
+END
 
 # The code in the document: on recordings in blocks of some lengths; and at the end of the count of values, where it must begin anew with a whole half-cycle.
 # For that the busy example becomes one under the document's settings, with each sample eight times.
@@ -338,6 +381,8 @@ for block in 1 7 64 4999; do
         "$work/document" $recording.bin $block >"$work/got"
         same "the code in docs/INTEGRATION.md: $recording, $block samples at a time" <(stored <$recording.txt) "$work/got"
     done
+    "$work/document" "$work/clipped.bin" $block >"$work/got"
+    same "the code in docs/INTEGRATION.md: clipped, $block samples at a time" <(stored <"$work/clipped.txt") "$work/got"
     while read -r values halves; do
         { head -c 36 "$work/wide.bin"; tail -c "+$((36 + 128 * halves + 1))" "$work/wide.bin"; } | "$OUT/log" | stored >"$work/want"
         "$work/document" "$work/wide.bin" $block "$values" >"$work/got" 2>&1
@@ -353,6 +398,7 @@ done
 all_tests() {
     prints "$1"
     goes_on "$1"
+    clipped "$1"
     refuses "$1"
     refuses_state "$1"
     refuses_log "$1"
@@ -366,7 +412,8 @@ PAUSE=0.1
 CRUSHER=(0 1 63 64 8000 8001 12799 22751 30000 38399 38400)
 BUSY=(1770 8 8 8 9 100 1)
 WORKED=(9 9 9 9 9 9 9)
-DAMAGE=(short long empty numbers 0:'\02\0\0\0' 92:'\02\0\0\0' 620:'\051\0\0\0' 628:'\01\0\0\0' 636:'\0\0\0\0' 648:'\0\0\0\0')
+CLIPPED=(24 25 31 32 33 40 41 48 144 145 152 160 168)
+DAMAGE=(short long empty numbers 0:'\02\0\0\0' 100:'\02\0\0\0' 764:'\051\0\0\0' 772:'\01\0\0\0' 780:'\0\0\0\0' 792:'\0\0\0\0')
 LOG=("$OUT/log")
 all_tests plain
 LOG=("$OUT/log-sanitized")
@@ -376,10 +423,12 @@ PAUSE=1
 CRUSHER=(8001)
 BUSY=(1770 8)
 WORKED=(9 9)
+CLIPPED=(33)
 DAMAGE=(short)
 LOG=(valgrind --quiet --leak-check=full --error-exitcode=9 "$OUT/log")
 prints valgrind
 goes_on valgrind
+clipped valgrind
 refuses_state valgrind
 refuses_input valgrind
 values_end valgrind

@@ -5,20 +5,22 @@
 use crate::engineer::{Answer, Call, Engineer, Fed, Looked};
 use crate::images::{self, Fields};
 use crate::lists::next_call;
-use crate::readings::energy;
+use crate::marks::Marks;
+use crate::readings::{energy, has_clipped};
 use crate::rng::{one_of, Rng};
 use crate::room::RECORD;
 use crate::rules::{self, settings_bytes, Settings, IMAGE};
-use crate::{stepper, waves};
+use crate::{clips, stepper, waves};
 
 /// The most samples that follow an item, and the saves that the program keeps.
 const MOST_SAMPLES: usize = 32_767;
 const PLACES: usize = 16;
 /// The longest record buffer: enough for most blocks, and not too much to print.
 const ROOM: usize = 400;
-/// How many lists the gate runs the program on in one go, and their seed.
-const FILES_LISTS: u64 = 12;
-const FILES_SEED: u64 = 2645;
+/// The lists that the gate runs the program on in one go, by their numbers under a seed: together
+/// they have everything that is counted.
+const FILES_SEED: u64 = 1;
+const FILES_LISTS: [u64; 11] = [26, 29, 95, 440, 562, 764, 953, 1752, 2380, 5862, 6472];
 
 /// The kinds of item, in the program's numbers.
 const START: u8 = 0;
@@ -37,14 +39,19 @@ pub struct Tally {
     /// Refusals, 1 to 11.
     refusals: [u64; 12],
     whys: [u64; 3],
-    /// Records, by kind, 1 to 4.
-    records: [u64; 5],
+    /// Records, by kind, 1 to 4, without and with the mark; and the marks of images.
+    records: [[u64; 2]; 5],
+    marks: Marks,
     /// Phases, and dips, swells and interruptions that stand, in what look tells.
     phases: [u64; 4],
     stand: [u64; 3],
     /// Restores of a save that set the logger back, and of accepted bytes.
     set_back: u64,
     accepted: u64,
+    /// Gathers that leave the half in progress, and the last half, without and with the mark.
+    gathered: [[u64; 2]; 2],
+    /// Items that the program skips.
+    skipped: [u64; 3],
 }
 
 impl Tally {
@@ -64,8 +71,9 @@ impl Tally {
         for (why, count) in self.whys.into_iter().enumerate() {
             add(format!("why {why}"), count);
         }
-        for (name, count) in kinds.iter().zip(&self.records[1..]) {
-            add(format!("record {name}"), *count);
+        for (name, [without, with]) in kinds.iter().zip(&self.records[1..]) {
+            add(format!("record {name}, mark 0"), *without);
+            add(format!("record {name}, mark 1"), *with);
         }
         add("restores that set back".into(), self.set_back);
         add("restores of accepted bytes".into(), self.accepted);
@@ -75,6 +83,16 @@ impl Tally {
         for (name, count) in kinds.iter().zip(self.stand) {
             add(format!("look, {name} stands"), count);
         }
+        let halves = ["half in progress", "last half"];
+        for (name, [without, with]) in halves.iter().zip(self.gathered) {
+            add(format!("gather, {name}, mark 0"), without);
+            add(format!("gather, {name}, mark 1"), with);
+        }
+        let items = ["restore of no save", "gather of no half-cycle", "item of another kind"];
+        for (name, count) in items.iter().zip(self.skipped) {
+            add(format!("skipped: {name}"), count);
+        }
+        list.extend(self.marks.image_counts());
         list
     }
 }
@@ -197,7 +215,9 @@ impl List {
                 self.item(FEED, fill, room, &bytes);
                 let (fed, records) = measure.feed(&block, room);
                 seen.whys[fed.why as usize] += 1;
-                records.chunks(RECORD).for_each(|x| seen.records[x[0] as usize] += 1);
+                for x in records.chunks(RECORD) {
+                    seen.records[x[0] as usize][x[1] as usize] += 1;
+                }
                 let told = format!("feed {} {} {}", fed.taken, fed.written, fed.why);
                 let line = format!("{told} {}", buffer(room, fill, &records));
                 (FEED, fed.taken as usize, line)
@@ -217,6 +237,9 @@ impl List {
                     Ok(image) => (0, image),
                     Err(number) => (number, Vec::new()),
                 };
+                if number == 0 {
+                    seen.marks.image(&Fields::of(&image));
+                }
                 seen.refusals[number as usize] += 1;
                 (SAVE, 0, format!("save {number} {}", buffer(length, fill, &image)))
             }
@@ -243,8 +266,10 @@ impl List {
     }
 
     /// An item that the program skips.
-    fn skipped(&mut self, rng: &mut Rng, saves: usize) {
-        match rng.range(0, 2) {
+    fn skipped(&mut self, rng: &mut Rng, saves: usize, seen: &mut Tally) {
+        let which = rng.range(0, 2);
+        seen.skipped[which as usize] += 1;
+        match which {
             0 => {
                 self.item(RESTORE_SAVE, 0, saves + rng.range(0, 20) as usize, &[]);
                 self.text += "none\n";
@@ -260,9 +285,13 @@ impl List {
         seen.items[GATHER as usize] += 1;
         let halves = samples.len() / m;
         let rest = &samples[halves * m..];
-        let last = if halves > 0 { energy(&samples[(halves - 1) * m..halves * m]) } else { 0 };
-        let whole = (halves > 0) as u8;
-        let state = format!("{} {} {last} {whole} {halves}", rest.len(), energy(rest));
+        let last = if halves > 0 { &samples[(halves - 1) * m..halves * m] } else { &[] };
+        let sums = format!("{} {} {}", rest.len(), energy(rest), energy(last));
+        let marks = [has_clipped(rest), has_clipped(last)];
+        seen.gathered[0][marks[0] as usize] += (!rest.is_empty()) as u64;
+        seen.gathered[1][marks[1] as usize] += (halves > 0) as u64;
+        let [whole, mark, last_mark] = [halves > 0, marks[0], marks[1]].map(|x| x as u8);
+        let state = format!("{sums} {whole} {mark} {last_mark} {halves}");
         self.text += &format!("samples {state}\nparts {state}\n");
     }
 }
@@ -307,14 +336,15 @@ pub fn list(rng: &mut Rng, seen: &mut Tally) -> List {
     list
 }
 
-/// The lists that the gate runs the program on: its input, and what it must write.
-pub fn files() -> (Vec<u8>, String) {
-    let mut seen = Tally::default();
-    let lists: Vec<List> =
-        (0..FILES_LISTS).map(|x| list(&mut Rng::of_case(FILES_SEED, x), &mut seen)).collect();
-    let input = lists.iter().flat_map(|x| x.input.clone()).collect();
-    let text = lists.iter().map(|x| x.text.as_str()).collect();
-    (input, text)
+/// The lists that the gate runs the program on, one behind the other.
+pub fn files(seen: &mut Tally) -> List {
+    let mut all = List::default();
+    for number in FILES_LISTS {
+        let list = list(&mut Rng::of_case(FILES_SEED, number), seen);
+        all.input.extend(list.input);
+        all.text += &list.text;
+    }
+    all
 }
 
 fn make_calls(
@@ -330,13 +360,13 @@ fn make_calls(
         17..=40 => rng.range(1, 3 * s.n),
         _ => rng.range(1, s.n + 20),
     };
-    let mut source = waves::wave(rng, s, halves);
+    let mut source = clips::wave(rng, s, halves);
     // In some lists, bytes that no save gives and that restore accepts.
     let strange = rng.chance(25);
     for j in 0..calls {
         if source.is_empty() && rng.chance(40) {
             let halves = rng.range(1, s.n);
-            source = waves::wave(rng, s, halves);
+            source = clips::wave(rng, s, halves);
         }
         let fill = rng.next() as u8;
         let saves = measure.saves.len().min(PLACES);
@@ -348,7 +378,7 @@ fn make_calls(
                 continue;
             }
             5 => {
-                list.skipped(rng, saves);
+                list.skipped(rng, saves, seen);
                 continue;
             }
             _ => {}

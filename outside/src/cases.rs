@@ -6,7 +6,7 @@ use crate::images::{self, Fields};
 use crate::logger::Logger;
 use crate::rng::{one_of, Rng};
 use crate::rules::{self, settings_bytes, Settings, IMAGE};
-use crate::waves;
+use crate::{clips, pairs, waves};
 
 impl Run<'_> {
     /// One case.
@@ -31,7 +31,7 @@ impl Run<'_> {
         let number = rules::settings(&bytes).err().unwrap_or(0);
         let by_logger = Logger::start(&bytes).err().unwrap_or(0);
         demand(number == by_logger, || format!("start: numbers {number} and {by_logger}"))?;
-        let length = one_of(&[IMAGE, IMAGE, IMAGE + 1, 700, 0, 1, IMAGE - 1], rng);
+        let length = one_of(&[IMAGE, IMAGE, IMAGE + 1, 900, 0, 1, 620, IMAGE - 1], rng);
         let (begun, _) = self.begin(&bytes, length, rng.next() as u8)?;
         let expected = if number == 0 && length < IMAGE { 7 } else { number };
         demand(begun == expected, || format!("begin gives {begun}, not {expected}"))
@@ -41,10 +41,7 @@ impl Run<'_> {
     fn image_case(&mut self, rng: &mut Rng) -> Outcome<()> {
         let s = waves::settings(rng);
         let mut image = match rng.range(0, 9) {
-            0 => {
-                let pairs = images::pairs(s);
-                pairs[rng.range(0, pairs.len() as i64 - 1) as usize].accepted.bytes()
-            }
+            0 => pairs::pair(rng, s).accepted.bytes(),
             1..=2 => {
                 let saved = recorded(rng, &s);
                 let changed = changed_byte(rng, &saved);
@@ -62,7 +59,7 @@ impl Run<'_> {
 
         let halves = one_of(&[1, 3, 30, s.n + 5, 2 * s.n + 5], rng);
         let halves = if s.m > 40 { halves.min(s.n + 5) } else { halves };
-        let samples = waves::bytes(&waves::wave(rng, &s, halves));
+        let samples = waves::bytes(&clips::wave(rng, &s, halves));
         let mut left = &samples[..];
         for _ in 0..rng.range(1, 5) {
             let most = left.len() as i64 / 2;
@@ -103,12 +100,16 @@ impl Run<'_> {
             _ => images::accepted(rng, s),
         };
         for _ in 0..12 {
-            let image = if rng.chance(70) { damaged(rng, &good) } else { good.clone() };
+            let image = match rng.range(0, 9) {
+                0..=3 => damaged(rng, &good),
+                4..=6 => self.at_a_rule(rng, s)?,
+                _ => good.clone(),
+            };
             let number = rules::restore(&image);
             self.seen.call("restore");
             let by_logger = Logger::from_image(&image).err().unwrap_or(0);
             demand(number == by_logger, || format!("restore: numbers {number} and {by_logger}"))?;
-            let mut samples = waves::bytes(&waves::wave(rng, &s, 2));
+            let mut samples = waves::bytes(&clips::wave(rng, &s, 2));
             if rng.chance(30) {
                 samples.pop();
             }
@@ -135,6 +136,17 @@ impl Run<'_> {
         }
         Ok(())
     }
+
+    /// An image that breaks one rule of 11, or the nearest one that does not.
+    fn at_a_rule(&mut self, rng: &mut Rng, s: Settings) -> Outcome<Vec<u8>> {
+        let pair = pairs::pair(rng, s);
+        let broken = rng.chance(50);
+        let image = if broken { pair.broken } else { pair.accepted }.bytes();
+        let (number, expected) = (rules::restore(&image), if broken { 11 } else { 0 });
+        demand(number == expected, || format!("{}: {number}, not {expected}", pair.rule))?;
+        self.seen.rule(pair.rule, broken);
+        Ok(image)
+    }
 }
 
 /// The logger's image.
@@ -147,7 +159,7 @@ pub fn image_of(logger: &Logger) -> Vec<u8> {
 /// The image of a random recording.
 fn recorded(rng: &mut Rng, s: &Settings) -> Vec<u8> {
     let halves = rng.range(0, 3 * s.n);
-    let samples = waves::bytes(&waves::wave(rng, s, halves));
+    let samples = waves::bytes(&clips::wave(rng, s, halves));
     let cut = rng.range(0, samples.len() as i64 / 2) as usize;
     let mut logger = Logger::start(&settings_bytes(s)).unwrap();
     logger.feed(&samples.as_chunks::<2>().0[..cut], &mut vec![0; 80 * 800]);
@@ -168,7 +180,8 @@ pub fn damaged(rng: &mut Rng, image: &[u8]) -> Vec<u8> {
     match rng.range(0, 9) {
         0..=2 => changed_byte(rng, image),
         3 => {
-            bytes.resize(one_of(&[0, 1, 32, 68, 619, 621, 1240], rng), 0);
+            let lengths = [0, 1, 32, 68, 620, IMAGE - 1, IMAGE + 1, 2 * IMAGE];
+            bytes.resize(one_of(&lengths, rng), 0);
             bytes
         }
         4 => {
@@ -181,9 +194,6 @@ pub fn damaged(rng: &mut Rng, image: &[u8]) -> Vec<u8> {
             bytes[32..68].copy_from_slice(&bad);
             bytes
         }
-        _ => {
-            let pairs = images::pairs(Fields::of(image).s);
-            pairs[rng.range(0, pairs.len() as i64 - 1) as usize].broken.bytes()
-        }
+        _ => pairs::pair(rng, Fields::of(image).s).broken.bytes(),
     }
 }

@@ -122,8 +122,13 @@ impl Engineer {
         (Fed { taken: taken as u64, written: count, why }, written)
     }
 
+    /// The readings of the recording.
+    pub fn readings(&self) -> Readings<'_> {
+        Readings::of(self.s, &self.recording)
+    }
+
     pub fn look(&self) -> Looked {
-        let x = Readings::of(self.s, &self.recording);
+        let x = self.readings();
         let v = x.v();
         Looked {
             v: v as u64,
@@ -146,7 +151,7 @@ impl Engineer {
 
     /// The image of the recording.
     pub fn image(&self) -> Vec<u8> {
-        Readings::of(self.s, &self.recording).image()
+        self.readings().image()
     }
 
     /// The bytes of the records written so far.
@@ -156,13 +161,12 @@ impl Engineer {
 
     /// The bytes of all records of the recording due at values up to V.
     pub fn due(&self) -> Vec<u8> {
-        let x = Readings::of(self.s, &self.recording);
-        x.records().iter().flat_map(|x| x.bytes()).collect()
+        self.readings().records().iter().flat_map(|x| x.bytes()).collect()
     }
 
     /// How many changes of the recording ended without a record.
     pub fn changes_dropped(&self) -> usize {
-        let x = Readings::of(self.s, &self.recording);
+        let x = self.readings();
         let recorded = x.records().iter().filter(|x| x.kind == 4).count();
         x.changes().len() - recorded
     }

@@ -2,16 +2,17 @@
 
 use crate::limits::Limits;
 use crate::logger::{Change, Event, Logger, Phase, PLACES};
+use crate::squares::Part;
 
 /// Bytes in an image.
-pub const IMAGE: usize = 620;
+pub const IMAGE: usize = 764;
 
 /// The table of contents: code (4 bytes), offset (2), length (2), four times.
 const TABLE: [u8; 32] = [
     1, 0, 0, 0, 32, 0, 36, 0, //
-    2, 0, 0, 0, 68, 0, 24, 0, //
-    3, 0, 0, 0, 92, 0, 228, 1, //
-    4, 0, 0, 0, 64, 2, 44, 0,
+    2, 0, 0, 0, 68, 0, 32, 0, //
+    3, 0, 0, 0, 100, 0, 92, 2, //
+    4, 0, 0, 0, 192, 2, 60, 0,
 ];
 
 const TOP: u32 = 524_288;
@@ -33,7 +34,7 @@ fn put8(b: &mut [u8; IMAGE], at: usize, x: u64) {
 }
 
 impl Logger {
-    /// Save: the first 620 bytes, or refusal 7 and nothing.
+    /// Save: the first 764 bytes, or refusal 7 and nothing.
     pub fn save(&self, buffer: &mut [u8]) -> Result<(), u32> {
         let Some(b) = buffer.first_chunk_mut::<IMAGE>() else {
             return Err(7);
@@ -43,29 +44,34 @@ impl Logger {
             put4(b, 32 + 4 * j, x);
         }
         put4(b, 68, self.count as u32);
-        put8(b, 72, self.sum);
-        put8(b, 80, self.last);
+        put8(b, 72, self.part.sum);
+        put8(b, 80, self.last.sum);
         put4(b, 88, self.whole as u32);
-        put4(b, 92, self.v);
-        let places = b[96..576].as_chunks_mut::<4>().0;
+        put4(b, 92, self.part.clipped as u32);
+        put4(b, 96, self.last.clipped as u32);
+        put4(b, 100, self.v);
+        let places = b[104..584].as_chunks_mut::<4>().0;
         for (place, r) in places.iter_mut().zip(self.window) {
             *place = r.to_le_bytes();
         }
+        b[584..704].copy_from_slice(&self.marks);
 
-        let (phase, carried) = match self.phase {
-            Phase::Filling => (0, [0; 4]),
-            Phase::NeverSteady => (1, [0; 4]),
-            Phase::Steady => (2, [0; 4]),
-            Phase::Change(c) => (3, [c.k, c.before, c.greatest, c.stand]),
+        let (phase, carried, clipped) = match self.phase {
+            Phase::Filling => (0, [0; 4], false),
+            Phase::NeverSteady => (1, [0; 4], false),
+            Phase::Steady => (2, [0; 4], false),
+            Phase::Change(c) => (3, [c.k, c.before, c.greatest, c.stand], c.clipped),
         };
-        put4(b, 576, phase);
+        put4(b, 704, phase);
         for (j, &x) in carried.iter().enumerate() {
-            put4(b, 580 + 4 * j, x);
+            put4(b, 708 + 4 * j, x);
         }
         for (j, x) in [self.dip, self.swell, self.interruption].iter().enumerate() {
-            put4(b, 596 + 8 * j, x.start);
-            put4(b, 600 + 8 * j, x.magnitude);
+            put4(b, 724 + 8 * j, x.start);
+            put4(b, 728 + 8 * j, x.magnitude);
+            put4(b, 748 + 4 * j, x.clipped as u32);
         }
+        put4(b, 760, clipped as u32);
         Ok(())
     }
 
@@ -97,13 +103,17 @@ impl Logger {
         let count = get4(b, 68);
         let sum = get8(b, 72);
         let last = get8(b, 80);
-        let mark = get4(b, 88);
-        let v = get4(b, 92);
-        let marked = mark == 1 || (mark == 0 && last == 0 && v == 0);
+        let whole = get4(b, 88);
+        let clipped = get4(b, 92);
+        let last_clipped = get4(b, 96);
+        let v = get4(b, 100);
+        let there = whole == 1 || (whole == 0 && last == 0 && v == 0);
         if count as usize >= limits.m
             || sum > (count as u64) << 30
             || last > (limits.m as u64) << 30
-            || !marked
+            || !there
+            || clipped > (count > 0) as u32
+            || last_clipped > whole
         {
             return None;
         }
@@ -111,22 +121,28 @@ impl Logger {
         // The values.
         let used = n.min(v as usize);
         let mut window = [0u32; PLACES];
-        for (r, place) in window.iter_mut().zip(b[96..576].as_chunks::<4>().0) {
+        for (r, place) in window.iter_mut().zip(b[104..584].as_chunks::<4>().0) {
             *r = u32::from_le_bytes(*place);
         }
         let over = window[..used].iter().fold(false, |over, &r| over | (r > TOP));
         let stray = window[used..].iter().fold(0, |all, &r| all | r);
-        if over || stray != 0 {
+        let mut marks = [0u8; PLACES];
+        marks.copy_from_slice(&b[584..704]);
+        let any = marks[..used].iter().fold(0, |all, &x| all | x);
+        let stray_mark = marks[used..].iter().fold(0, |all, &x| all | x);
+        if over || stray != 0 || any > 1 || stray_mark != 0 {
             return None;
         }
 
         // The phase.
-        let code = get4(b, 576);
+        let code = get4(b, 704);
+        let mark = get4(b, 760);
         let c = Change {
-            k: get4(b, 580),
-            before: get4(b, 584),
-            greatest: get4(b, 588),
-            stand: get4(b, 592),
+            k: get4(b, 708),
+            before: get4(b, 712),
+            greatest: get4(b, 716),
+            stand: get4(b, 720),
+            clipped: mark == 1,
         };
         if (code == 0) != ((v as usize) < n) {
             return None;
@@ -146,28 +162,35 @@ impl Logger {
                 && c.before <= far
                 && c.greatest <= far
                 && (!early || c.greatest == 0)
+                && mark <= !early as u32
                 && (c.stand == 0 || (c.k <= c.stand && c.stand <= v))
         } else {
-            c.k | c.before | c.greatest | c.stand == 0
+            c.k | c.before | c.greatest | c.stand | mark == 0
         };
 
         // The standing events.
-        let event = |at: usize| Event { start: get4(b, at), magnitude: get4(b, at + 4) };
-        let (dip, swell, interruption) = (event(596), event(604), event(612));
-        let holds =
-            |x: Event| x.start <= v && x.magnitude <= TOP && (x.start > 0 || x.magnitude == 0);
-        if !carried || !holds(dip) || !holds(swell) || !holds(interruption) {
+        let event = |at: usize, mark: usize| -> Option<Event> {
+            let (start, magnitude, mark) = (get4(b, at), get4(b, at + 4), get4(b, mark));
+            let holds = start <= v
+                && magnitude <= TOP
+                && (start > 0 || magnitude == 0)
+                && mark <= (start > 0) as u32;
+            holds.then_some(Event { start, magnitude, clipped: mark == 1 })
+        };
+        let (dip, swell, interruption) = (event(724, 748)?, event(732, 752)?, event(740, 756)?);
+        if !carried {
             return None;
         }
 
         Some(Logger {
             limits,
             count: count as usize,
-            sum,
-            last,
-            whole: mark == 1,
+            part: Part { sum, clipped: clipped == 1 },
+            last: Part { sum: last, clipped: last_clipped == 1 },
+            whole: whole == 1,
             v,
             window,
+            marks,
             window_sum: window.iter().sum(),
             phase,
             dip,

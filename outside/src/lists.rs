@@ -8,7 +8,7 @@ use crate::images::Fields;
 use crate::logger::Logger;
 use crate::rng::{one_of, Rng};
 use crate::rules::{self, settings_bytes, Settings, IMAGE};
-use crate::waves;
+use crate::{clips, waves};
 
 /// What a list of calls has left so far.
 #[derive(Default)]
@@ -21,7 +21,7 @@ struct List {
 impl Run<'_> {
     /// A list of calls: the engineer and the logger, and every feed through advance too.
     pub fn list_case(&mut self, rng: &mut Rng) -> Outcome<()> {
-        let s = waves::settings(rng);
+        let (s, mut source) = recording(rng);
         let bytes = settings_bytes(&s);
         self.seen.call("start");
         let mut engineer = Engineer::start(&bytes).map_err(|x| format!("engineer refuses {x}"))?;
@@ -29,14 +29,20 @@ impl Run<'_> {
         let (_, image) = self.begin(&bytes, IMAGE, 7)?;
         demand(image == engineer.image(), || "begin's image is not the engineer's".into())?;
 
-        let halves = if s.m <= 40 { rng.range(1, 7 * s.n) } else { rng.range(1, 3 * s.n) };
-        let mut source = waves::wave(rng, &s, halves);
         let mut list = List::default();
         let calls = rng.range(1, 30);
-        for j in 0..calls {
+        // In some lists one more, which takes all the samples that are left.
+        let rest = rng.chance(50) as i64;
+        for j in 0..calls + rest {
             let images = list.saves.iter().map(|x| &x.0[..]);
             let base = images.last().map_or(Fields::fresh(s).bytes(), |x| x.to_vec());
-            let call = next_call(rng, &s, &source, list.saves.len(), &base, calls - j);
+            let call = if j < calls {
+                next_call(rng, &s, &source, list.saves.len(), &base, calls - j)
+            } else {
+                // A value has four records at most.
+                let room = 80 * (source.len() / s.m as usize + 1);
+                Call::Feed { block: source.clone(), room }
+            };
             let call = match call {
                 // Bytes that would be accepted have no place in the claim's lists.
                 Call::RestoreBytes { bytes } if rules::restore(&bytes) == 0 => Call::Look,
@@ -47,8 +53,9 @@ impl Run<'_> {
             let image = image_of(&logger);
             self.run_call(&mut logger, &call, &answer, &mut list, rng).map_err(at)?;
             if let (Call::Feed { block, room }, Answer::Feed(fed, _)) = (&call, &answer) {
-                self.feed_by_hosts(&image, &image_of(&logger), block, *room, &answer)
-                    .map_err(at)?;
+                let after = image_of(&logger);
+                self.feed_by_hosts(&image, &after, block, *room, &answer).map_err(at)?;
+                self.seen.marks.fed(&Fields::of(&after), block.get(fed.taken as usize));
                 source.drain(..fed.taken as usize);
             }
         }
@@ -57,6 +64,8 @@ impl Run<'_> {
         demand(written == list.written, || "the logger's records are not those due".into())?;
         demand(engineer.image() == image_of(&logger), || "the last images differ".into())?;
         self.seen.dropped += engineer.changes_dropped() as u64;
+        self.seen.marks.records(&engineer.readings());
+        self.seen.marks.image(&Fields::of(&engineer.image()));
         Ok(())
     }
 
@@ -97,6 +106,7 @@ impl Run<'_> {
                 let mut expected = Guarded::filled(*length, fill).get().to_vec();
                 expected[..image.len()].copy_from_slice(image);
                 if *number == 0 {
+                    self.seen.marks.image(&Fields::of(image));
                     list.saves.push((image.clone(), list.written.clone()));
                 }
                 demand(buffer.holds() && buffer.get() == expected, || {
@@ -142,6 +152,17 @@ impl Run<'_> {
     }
 }
 
+/// Settings and samples for a list: most often any, sometimes such that marks come often, or all.
+fn recording(rng: &mut Rng) -> (Settings, Vec<i16>) {
+    let s = match rng.range(0, 99) {
+        0..=3 => return clips::every_mark(rng),
+        4..=23 => clips::settings(rng),
+        _ => waves::settings(rng),
+    };
+    let halves = if s.m <= 40 { rng.range(1, 7 * s.n) } else { rng.range(1, 3 * s.n) };
+    (s, clips::wave(rng, &s, halves))
+}
+
 /// A call under these settings: `saves` can be named, `base` is an image to damage, and `left` calls are
 /// to share what is left of the samples.
 pub fn next_call(
@@ -175,7 +196,7 @@ pub fn next_call(
         }
         60..=69 => Call::Look,
         70..=84 => {
-            let lengths = [0, 1, 619, 620, 620, 620, 621, 700];
+            let lengths = [0, 1, 620, IMAGE - 1, IMAGE, IMAGE, IMAGE, IMAGE, IMAGE + 1, 900];
             Call::Save { length: one_of(&lengths, rng) }
         }
         85..=92 if saves > 0 => Call::RestoreSave { name: rng.range(0, saves as i64 - 1) as usize },

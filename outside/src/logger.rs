@@ -1,37 +1,55 @@
 //! The logger: a gatherer, the window of the last values with its sum, the phase, and the three
-//! standing events. Feed does not allocate.
+//! standing events; each half, value, change and event with the mark of clipped samples. Feed does
+//! not allocate.
 
 use crate::engineer::{Fed, Looked};
 use crate::limits::Limits;
-use crate::room::{Record, Room, RECORD};
-use crate::squares::{energy, root, Sample};
+use crate::room::{head, Record, Room, RECORD};
+use crate::squares::{root, Part, Sample};
 
 /// Most values that are kept.
 pub const PLACES: usize = 120;
+
+/// A value, and whether one of its samples is clipped.
+#[derive(Clone, Copy)]
+struct Value {
+    r: u32,
+    clipped: bool,
+}
+
+impl Value {
+    const NONE: Value = Value { r: 0, clipped: false };
+}
 
 /// An event that stands if its start is above 0.
 #[derive(Clone, Copy)]
 pub struct Event {
     pub start: u32,
     pub magnitude: u32,
+    pub clipped: bool,
 }
 
 impl Event {
-    pub const NONE: Event = Event { start: 0, magnitude: 0 };
+    pub const NONE: Event = Event { start: 0, magnitude: 0, clipped: false };
 
-    /// After value i, which is r: while it stands it keeps the least r, or the greatest.
-    fn with(self, i: u32, r: u32, begins: bool, ends: bool, pick: fn(u32, u32) -> u32) -> Event {
+    /// After value i: while it stands it keeps the least r, or the greatest, and the marks.
+    fn with(self, i: u32, x: Value, begins: bool, ends: bool, pick: fn(u32, u32) -> u32) -> Event {
         match self.start {
-            0 if begins => Event { start: i, magnitude: r },
+            0 if begins => Event { start: i, magnitude: x.r, clipped: x.clipped },
             0 => Event::NONE,
             _ if ends => Event::NONE,
-            start => Event { start, magnitude: pick(self.magnitude, r) },
+            start => Event {
+                start,
+                magnitude: pick(self.magnitude, x.r),
+                clipped: self.clipped | x.clipped,
+            },
         }
     }
 
     /// The record due at value i, if that ended it.
     fn record(self, kind: u32, i: u32, after: Event) -> Option<Record> {
         let ended = self.start > 0 && after.start == 0;
+        let kind = head(kind, self.clipped);
         ended.then(|| [kind, self.start, i - self.start, self.magnitude, 0])
     }
 }
@@ -43,6 +61,7 @@ pub struct Change {
     pub before: u32,
     pub greatest: u32,
     pub stand: u32,
+    pub clipped: bool,
 }
 
 #[derive(Clone, Copy)]
@@ -58,12 +77,13 @@ pub struct Logger {
     pub limits: Limits,
     /// The gatherer: the half in progress, and the last whole half.
     pub count: usize,
-    pub sum: u64,
-    pub last: u64,
+    pub part: Part,
+    pub last: Part,
     pub whole: bool,
-    /// V; the last values, at most N, oldest first, the rest 0; and their sum.
+    /// V; the last values, at most N, oldest first, the rest 0; their marks alike; and their sum.
     pub v: u32,
     pub window: [u32; PLACES],
+    pub marks: [u8; PLACES],
     pub window_sum: u32,
     pub phase: Phase,
     pub dip: Event,
@@ -77,11 +97,12 @@ impl Logger {
         Ok(Logger {
             limits: Limits::new(settings)?,
             count: 0,
-            sum: 0,
-            last: 0,
+            part: Part::NONE,
+            last: Part::NONE,
             whole: false,
             v: 0,
             window: [0; PLACES],
+            marks: [0; PLACES],
             window_sum: 0,
             phase: Phase::Filling,
             dip: Event::NONE,
@@ -104,14 +125,14 @@ impl Logger {
             let rest = &block[taken..];
             let missing = self.limits.m - self.count;
             if rest.len() < missing {
-                self.sum += energy(rest);
+                self.part = self.part.with(rest);
                 self.count += rest.len();
                 return (block.len(), 0);
             }
-            let e = self.sum + energy(&rest[..missing]);
-            if let Err(why) = self.half(e, room) {
+            let half = self.part.with(&rest[..missing]);
+            if let Err(why) = self.half(half, room) {
                 // The sample that would end the half-cycle cannot be taken.
-                self.sum = e - energy(&rest[missing - 1..missing]);
+                self.part = self.part.with(&rest[..missing - 1]);
                 self.count += missing - 1;
                 return (taken + missing - 1, why);
             }
@@ -119,37 +140,39 @@ impl Logger {
         }
     }
 
-    /// Ends a half-cycle of energy e, or says why not and changes nothing.
-    fn half(&mut self, e: u64, room: &mut Room) -> Result<(), u64> {
+    /// Ends a half-cycle, or says why not and changes nothing.
+    fn half(&mut self, half: Part, room: &mut Room) -> Result<(), u64> {
         if self.whole {
             if self.v == u32::MAX {
                 return Err(2);
             }
-            let mean = 128 * (self.last + e) / self.limits.m as u64;
-            if !self.value(root(mean, self.newest() as u64) as u32, room) {
+            let mean = 128 * (self.last.sum + half.sum) / self.limits.m as u64;
+            let r = root(mean, self.newest() as u64) as u32;
+            if !self.value(Value { r, clipped: self.last.clipped | half.clipped }, room) {
                 return Err(1);
             }
         }
         self.count = 0;
-        self.sum = 0;
-        self.last = e;
+        self.part = Part::NONE;
+        self.last = half;
         self.whole = true;
         Ok(())
     }
 
     /// Takes a value, unless its records do not fit: then nothing changes.
-    fn value(&mut self, r: u32, room: &mut Room) -> bool {
+    fn value(&mut self, x: Value, room: &mut Room) -> bool {
         let l = &self.limits;
         let i = self.v + 1;
+        let r = x.r;
         let (dip, swell, interruption) = (self.dip, self.swell, self.interruption);
-        let new_dip = dip.with(i, r, r < l.dip.0, r >= l.dip.1, u32::min);
-        let new_swell = swell.with(i, r, r > l.swell.0, r <= l.swell.1, u32::max);
+        let new_dip = dip.with(i, x, r < l.dip.0, r >= l.dip.1, u32::min);
+        let new_swell = swell.with(i, x, r > l.swell.0, r <= l.swell.1, u32::max);
         let (below, above) = (r < l.interruption.0, r >= l.interruption.1);
-        let new_interruption = interruption.with(i, r, below, above, u32::min);
+        let new_interruption = interruption.with(i, x, below, above, u32::min);
         let begins = new_dip.start == i || new_swell.start == i;
 
-        let leaving = if self.v as usize >= l.n { self.window[0] } else { 0 };
-        let sum = self.window_sum + r - leaving;
+        let leaving = if self.v as usize >= l.n { self.oldest() } else { Value::NONE };
+        let sum = self.window_sum + r - leaving.r;
         let (phase, change) = self.signal(r, leaving, sum, begins);
         let due = [
             dip.record(1, i, new_dip),
@@ -163,7 +186,7 @@ impl Logger {
 
         (self.dip, self.swell, self.interruption) = (new_dip, new_swell, new_interruption);
         self.phase = phase;
-        self.push(r);
+        self.push(x);
         self.window_sum = sum;
         self.v = i;
         true
@@ -171,7 +194,7 @@ impl Logger {
 
     /// The phase after value V + 1, r, and the record of the change that it closes. `leaving` leaves
     /// the window, whose sum is then `sum`.
-    fn signal(&self, r: u32, leaving: u32, sum: u32, begins: bool) -> (Phase, Option<Record>) {
+    fn signal(&self, r: u32, leaving: Value, sum: u32, begins: bool) -> (Phase, Option<Record>) {
         let n = self.limits.n as u32;
         let i = self.v + 1;
         let stand = if begins { i } else { 0 };
@@ -181,21 +204,24 @@ impl Logger {
                 // Value i − N leaves the window; it belongs to the change from k on.
                 let left = i - n;
                 if left >= c.k {
-                    c.greatest = c.greatest.max((n * leaving).abs_diff(c.before));
+                    c.greatest = c.greatest.max((n * leaving.r).abs_diff(c.before));
+                    c.clipped |= leaving.clipped;
                 }
                 if c.stand == 0 {
                     c.stand = stand;
                 }
                 if left > c.k && self.calm(r, sum, self.limits.calm_back) {
                     let shown = c.stand == 0 || c.stand > left;
-                    let record = [4, c.k, left - c.k, c.greatest, sum.abs_diff(c.before)];
+                    let kind = head(4, c.clipped);
+                    let record = [kind, c.k, left - c.k, c.greatest, sum.abs_diff(c.before)];
                     return (Phase::Steady, shown.then_some(record));
                 }
                 Phase::Change(c)
             }
             _ if self.calm(r, sum, self.limits.calm) => Phase::Steady,
             Phase::Steady => {
-                Phase::Change(Change { k: i, before: self.window_sum, greatest: 0, stand })
+                let before = self.window_sum;
+                Phase::Change(Change { k: i, before, greatest: 0, stand, clipped: false })
             }
             Phase::Filling | Phase::NeverSteady => Phase::NeverSteady,
         };
@@ -215,15 +241,22 @@ impl Logger {
         others.iter().fold(true, |calm, &x| calm & (lowest <= x) & (x <= highest))
     }
 
+    /// The oldest value that is kept, in a full window.
+    fn oldest(&self) -> Value {
+        Value { r: self.window[0], clipped: self.marks[0] == 1 }
+    }
+
     /// A value joins the window.
-    fn push(&mut self, r: u32) {
+    fn push(&mut self, x: Value) {
         let n = self.limits.n;
-        if self.v as usize >= n {
+        let mut place = self.v as usize;
+        if place >= n {
             self.window.copy_within(1..n, 0);
-            self.window[n - 1] = r;
-        } else {
-            self.window[self.v as usize] = r;
+            self.marks.copy_within(1..n, 0);
+            place = n - 1;
         }
+        self.window[place] = x.r;
+        self.marks[place] = x.clipped as u8;
     }
 
     /// r(V), or 0.

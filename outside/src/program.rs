@@ -4,7 +4,7 @@
 use crate::engineer::{Engineer, Looked};
 use crate::logger::Logger;
 use crate::rng::Rng;
-use crate::rules::{self, four, RECORD};
+use crate::rules::{four, settings_bytes, Q, RECORD};
 use crate::waves;
 
 const KINDS: [&str; 4] = ["dip", "swell", "interruption", "rvc"];
@@ -75,16 +75,14 @@ pub fn by_logger(input: &[u8]) -> Text {
 /// The recording in crates/event_log: under Q, a change, a swell, a dip with an interruption in it, a
 /// change that a dip hides; then a random wave, a dip that does not end, and an odd last byte.
 pub fn recording() -> Vec<u8> {
-    let q = [8, 50, 1600, 300, 150, 500, 9000, 11_000, 200];
-    let mut bytes: Vec<u8> = q.iter().flat_map(|x: &u32| x.to_le_bytes()).collect();
-    let settings = rules::settings(&bytes).unwrap();
     let mut samples = Vec::new();
     let steps = [(150, 100), (110, 96), (20, 115), (110, 98), (9, 60), (4, 2), (3, 70), (120, 100)];
     for (halves, count) in steps {
         samples.extend(vec![count; 8 * halves]);
     }
-    samples.extend(waves::wave(&mut Rng::new(1), &settings, 1500));
+    samples.extend(waves::wave(&mut Rng::new(1), &Q, 1500));
     samples.extend([40; 37]);
+    let mut bytes = settings_bytes(&Q);
     bytes.extend(waves::bytes(&samples));
     bytes.push(1);
     bytes

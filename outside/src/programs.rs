@@ -5,7 +5,7 @@ use crate::hosts::{demand, Outcome, Run};
 use crate::program::{self, Text};
 use crate::rng::{one_of, Rng};
 use crate::rules::settings_bytes;
-use crate::waves;
+use crate::{clips, waves};
 use std::io::{ErrorKind, Write};
 use std::process::{Command, Stdio};
 use std::thread;
@@ -20,7 +20,7 @@ impl Run<'_> {
             0..=7 => settings_bytes(&s),
             _ => waves::bad_settings(rng),
         };
-        input.extend(waves::bytes(&waves::wave(rng, &s, halves)));
+        input.extend(waves::bytes(&clips::wave(rng, &s, halves)));
         match rng.range(0, 9) {
             0 => input.truncate(rng.range(0, 80) as usize),
             1..=3 => input.push(rng.next() as u8),

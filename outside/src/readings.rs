@@ -1,5 +1,6 @@
-//! Everything that the paper reads from a recording and the settings: values, standing events,
-//! the steady signal, records with their due values, the image. Nothing is kept between readings.
+//! Everything that the paper reads from a recording and the settings: values, which of them are
+//! clipped, standing events, the steady signal, records with their due values, the image. Nothing is
+//! kept between readings.
 
 use crate::rules::{settings_bytes, table, Settings, IMAGE, TOP};
 
@@ -8,6 +9,8 @@ use crate::rules::{settings_bytes, table, Settings, IMAGE, TOP};
 pub struct Record {
     pub due: i64,
     pub kind: i64,
+    /// Whether a value of the first magnitude is clipped.
+    pub clipped: bool,
     pub start: i64,
     pub duration: i64,
     pub first: i64,
@@ -15,9 +18,18 @@ pub struct Record {
 }
 
 impl Record {
+    /// The last value of the first magnitude: b − 1, or m − N of a change.
+    pub fn last(&self, n: i64) -> i64 {
+        if self.kind == 4 {
+            self.due - n
+        } else {
+            self.due - 1
+        }
+    }
+
     /// The 20 bytes.
     pub fn bytes(&self) -> Vec<u8> {
-        let mut b = vec![self.kind as u8, 0, 0, 0];
+        let mut b = vec![self.kind as u8, self.clipped as u8, 0, 0];
         for x in [self.start, self.duration, self.first, self.second] {
             b.extend((x as u32).to_le_bytes());
         }
@@ -30,6 +42,7 @@ pub struct Readings<'a> {
     s: Settings,
     recording: &'a [i16],
     r: Vec<i64>,
+    clipped: Vec<bool>,
     dip: Vec<bool>,
     swell: Vec<bool>,
     interruption: Vec<bool>,
@@ -42,9 +55,20 @@ impl<'a> Readings<'a> {
         let dip = stands_below(&s, s.d, &r);
         let interruption = stands_below(&s, s.i, &r);
         let swell = stands_above(&s, &r);
-        let mut x = Readings { s, recording, r, dip, swell, interruption, signal: Vec::new() };
+        let clipped = clipped_values(&s, recording);
+        let signal = Vec::new();
+        let mut x = Readings { s, recording, r, clipped, dip, swell, interruption, signal };
         x.read_signal();
         x
+    }
+
+    pub fn n(&self) -> i64 {
+        self.s.n
+    }
+
+    /// The samples of values a to z.
+    pub fn samples(&self, a: i64, z: i64) -> &[i16] {
+        &self.recording[((a - 1) * self.s.m) as usize..((z + 1) * self.s.m) as usize]
     }
 
     /// V.
@@ -55,6 +79,16 @@ impl<'a> Readings<'a> {
     /// r(i).
     pub fn r(&self, i: i64) -> i64 {
         self.r[i as usize]
+    }
+
+    /// Whether value i is clipped.
+    pub fn clipped(&self, i: i64) -> bool {
+        self.clipped[i as usize]
+    }
+
+    /// Whether one of the values from a to z is clipped.
+    pub fn any_clipped(&self, a: i64, z: i64) -> bool {
+        (a..=z).any(|j| self.clipped(j))
     }
 
     /// A(i), for i of at least N.
@@ -123,8 +157,15 @@ impl<'a> Readings<'a> {
         let v = self.v();
         for a in (1..=v).filter(|&a| begins(stands, a)) {
             if let Some(b) = (a + 1..=v).find(|&b| !stands[b as usize]) {
-                let first = self.magnitude(kind, a, b - 1);
-                list.push(Record { due: b, kind, start: a, duration: b - a, first, second: 0 });
+                list.push(Record {
+                    due: b,
+                    kind,
+                    clipped: self.any_clipped(a, b - 1),
+                    start: a,
+                    duration: b - a,
+                    first: self.magnitude(kind, a, b - 1),
+                    second: 0,
+                });
             }
         }
     }
@@ -159,6 +200,7 @@ impl<'a> Readings<'a> {
             list.push(Record {
                 due: m,
                 kind: 4,
+                clipped: self.any_clipped(k, m - n),
                 start: k,
                 duration: m - n - k,
                 first: self.greatest_difference(k, m - n),
@@ -187,13 +229,30 @@ impl<'a> Readings<'a> {
         [self.dip[v], self.swell[v], self.interruption[v]]
     }
 
-    /// The image, 620 bytes.
+    /// Where a dip, swell or interruption that stands after V first stood; 0 if none stands.
+    fn standing_since(&self, stands: &[bool]) -> i64 {
+        let v = self.v();
+        if !stands[v as usize] {
+            return 0;
+        }
+        (1..=v).rev().find(|&a| begins(stands, a)).unwrap()
+    }
+
+    /// The k of a change in progress.
+    fn change_since(&self) -> Option<i64> {
+        if self.phase() == 3 {
+            self.turned_false(self.v())
+        } else {
+            None
+        }
+    }
+
+    /// The image.
     pub fn image(&self) -> Vec<u8> {
         let mut b = table();
         b.extend(settings_bytes(&self.s));
         self.gatherer_body(&mut b);
         self.values_body(&mut b);
-        self.phase_body(&mut b);
         self.events_body(&mut b);
         assert_eq!(b.len(), IMAGE);
         b
@@ -203,56 +262,69 @@ impl<'a> Readings<'a> {
         let m = self.s.m as usize;
         let whole = self.recording.len() / m;
         let in_progress = &self.recording[whole * m..];
-        let last = if whole > 0 { energy(&self.recording[(whole - 1) * m..whole * m]) } else { 0 };
+        let last = if whole > 0 { &self.recording[(whole - 1) * m..whole * m] } else { &[] };
         put4(b, in_progress.len() as i64);
         b.extend((energy(in_progress) as u64).to_le_bytes());
-        b.extend((last as u64).to_le_bytes());
+        b.extend((energy(last) as u64).to_le_bytes());
         put4(b, (whole > 0) as i64);
+        put4(b, has_clipped(in_progress) as i64);
+        put4(b, has_clipped(last) as i64);
     }
 
     fn values_body(&self, b: &mut Vec<u8>) {
         let v = self.v();
         let used = v.min(self.s.n);
+        let unused = (120 - used) as usize;
         put4(b, v);
         for j in v - used + 1..=v {
             put4(b, self.r(j));
         }
-        for _ in used..120 {
-            put4(b, 0);
+        b.extend(vec![0; 4 * unused]);
+        for j in v - used + 1..=v {
+            b.push(self.clipped(j) as u8);
         }
-    }
-
-    fn phase_body(&self, b: &mut Vec<u8>) {
-        let v = self.v();
-        let phase = self.phase();
-        put4(b, phase);
-        if phase != 3 {
-            b.extend([0; 16]);
-            return;
-        }
-        let k = self.turned_false(v).unwrap();
-        put4(b, k);
-        put4(b, self.a(k - 1));
-        put4(b, self.greatest_difference(k, v - self.s.n));
-        put4(b, (k..=v).find(|&j| self.dip_or_swell_begins(j)).unwrap_or(0));
+        b.extend(vec![0; unused]);
     }
 
     fn events_body(&self, b: &mut Vec<u8>) {
         let v = self.v();
-        for (kind, stands) in [(1, &self.dip), (2, &self.swell), (3, &self.interruption)] {
-            if stands[v as usize] {
-                let a = (1..=v).rev().find(|&a| begins(stands, a)).unwrap();
-                put4(b, a);
-                put4(b, self.magnitude(kind, a, v));
-            } else {
-                b.extend([0; 8]);
-            }
+        // The last value that has left the window.
+        let left = v - self.s.n;
+        let events = [(1, &self.dip), (2, &self.swell), (3, &self.interruption)];
+        let events = events.map(|(kind, stands)| (kind, self.standing_since(stands)));
+
+        put4(b, self.phase());
+        if let Some(k) = self.change_since() {
+            put4(b, k);
+            put4(b, self.a(k - 1));
+            put4(b, self.greatest_difference(k, left));
+            put4(b, (k..=v).find(|&j| self.dip_or_swell_begins(j)).unwrap_or(0));
+        } else {
+            b.extend([0; 16]);
         }
+        for (kind, start) in events {
+            put4(b, start);
+            put4(b, if start > 0 { self.magnitude(kind, start, v) } else { 0 });
+        }
+        for (_, start) in events {
+            put4(b, (start > 0 && self.any_clipped(start, v)) as i64);
+        }
+        put4(b, self.change_since().is_some_and(|k| self.any_clipped(k, left)) as i64);
     }
 }
 
 fn put4(b: &mut Vec<u8>, x: i64) {
     b.extend((x as u32).to_le_bytes());
+}
+
+/// Whether a sample is clipped: it stands at one of the converter's two ends.
+pub fn is_clipped(sample: i16) -> bool {
+    sample == -32_768 || sample == 32_767
+}
+
+/// Whether one of the samples is.
+pub fn has_clipped(samples: &[i16]) -> bool {
+    samples.iter().any(|&s| is_clipped(s))
 }
 
 /// The sum of squares of samples.
@@ -284,6 +356,17 @@ fn values(s: &Settings, recording: &[i16]) -> Vec<i64> {
         r.push(root(s.m, e(i) + e(i + 1)));
     }
     r
+}
+
+/// Whether each value is clipped: whether one of the samples of its two half-cycles is. Place 0 is
+/// unused.
+fn clipped_values(s: &Settings, recording: &[i16]) -> Vec<bool> {
+    let m = s.m as usize;
+    let mut clipped = vec![false];
+    for i in 1..recording.len() / m {
+        clipped.push(has_clipped(&recording[(i - 1) * m..(i + 1) * m]));
+    }
+    clipped
 }
 
 /// Whether a dip (level D) or an interruption (level I) stands after each value.

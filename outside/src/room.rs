@@ -3,8 +3,14 @@
 /// Bytes in a record.
 pub const RECORD: usize = 20;
 
-/// Kind, start, duration, first and second magnitude.
+/// A record as five numbers: the kind with the mark in its second byte, start, duration, first and
+/// second magnitude.
 pub type Record = [u32; 5];
+
+/// The record's first number.
+pub fn head(kind: u32, clipped: bool) -> u32 {
+    kind | (clipped as u32) << 8
+}
 
 /// Where records go.
 pub struct Room<'a> {

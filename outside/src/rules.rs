@@ -3,7 +3,7 @@
 /// Highest value that a half-cycle pair can give, in sixteenths of a count.
 pub const TOP: i64 = 524_288;
 /// Bytes in an image.
-pub const IMAGE: usize = 620;
+pub const IMAGE: usize = 764;
 /// Bytes in a record.
 pub const RECORD: usize = 20;
 /// V's end.
@@ -23,6 +23,10 @@ pub struct Settings {
     pub g: i64,
     pub n: i64,
 }
+
+/// The settings that the paper calls Q.
+pub const Q: Settings =
+    Settings { m: 8, f: 50, u: 1600, t: 300, h: 150, i: 500, d: 9000, w: 11_000, g: 200, n: 100 };
 
 /// The unsigned 4-byte number at `at`.
 pub fn four(bytes: &[u8], at: usize) -> i64 {
@@ -72,7 +76,7 @@ pub fn settings_bytes(s: &Settings) -> Vec<u8> {
 /// The table of contents, 32 bytes.
 pub fn table() -> Vec<u8> {
     let mut bytes = Vec::new();
-    for (code, offset, length) in [(1u32, 32u16, 36u16), (2, 68, 24), (3, 92, 484), (4, 576, 44)] {
+    for (code, offset, length) in [(1u32, 32u16, 36u16), (2, 68, 32), (3, 100, 604), (4, 704, 60)] {
         bytes.extend(code.to_le_bytes());
         bytes.extend(offset.to_le_bytes());
         bytes.extend(length.to_le_bytes());
@@ -98,36 +102,40 @@ pub fn restore(bytes: &[u8]) -> u32 {
     }
 }
 
+/// Whether a mark is 0 or 1, and 0 where it is unused.
+fn mark_holds(mark: i64, used: bool) -> bool {
+    mark == 0 || (mark == 1 && used)
+}
+
 /// Every rule listed under 11.
 fn bodies_hold(s: &Settings, bytes: &[u8]) -> bool {
     // Body 2.
     let count = four(bytes, 68);
     let sum = eight(bytes, 72);
     let last = eight(bytes, 80);
-    let mark = four(bytes, 88);
-    let v = four(bytes, 92);
+    let whole = four(bytes, 88);
+    let v = four(bytes, 100);
     let gatherer = count < s.m
         && sum <= (count as i128) << 30
         && last <= (s.m as i128) << 30
-        && (mark == 1 || (mark == 0 && last == 0 && v == 0));
+        && (whole == 1 || (whole == 0 && last == 0 && v == 0))
+        && mark_holds(four(bytes, 92), count > 0)
+        && mark_holds(four(bytes, 96), whole == 1);
 
     // Body 3.
     let used = v.min(s.n);
     let places = (0..120).all(|j| {
-        let r = four(bytes, 96 + 4 * j as usize);
-        if j < used {
-            r <= TOP
-        } else {
-            r == 0
-        }
+        let r = four(bytes, 104 + 4 * j as usize);
+        let mark = bytes[584 + j as usize] as i64;
+        r <= TOP && (j < used || r == 0) && mark_holds(mark, j < used)
     });
 
     // Body 4, the phase.
-    let phase = four(bytes, 576);
-    let k = four(bytes, 580);
-    let before = four(bytes, 584);
-    let greatest = four(bytes, 588);
-    let stand = four(bytes, 592);
+    let phase = four(bytes, 704);
+    let k = four(bytes, 708);
+    let before = four(bytes, 712);
+    let greatest = four(bytes, 716);
+    let stand = four(bytes, 720);
     let phase_in_range = (0..=3).contains(&phase) && (phase == 0) == (v < s.n);
     let change = if phase == 3 {
         s.n < k
@@ -139,13 +147,18 @@ fn bodies_hold(s: &Settings, bytes: &[u8]) -> bool {
     } else {
         k == 0 && before == 0 && greatest == 0 && stand == 0
     };
+    let change_mark = mark_holds(four(bytes, 760), phase == 3 && v >= k + s.n);
 
     // Body 4, the standing events.
     let events = (0..3).all(|e| {
-        let start = four(bytes, 596 + 8 * e);
-        let magnitude = four(bytes, 600 + 8 * e);
-        start <= v && magnitude <= TOP && (start != 0 || magnitude == 0)
+        let start = four(bytes, 724 + 8 * e);
+        let magnitude = four(bytes, 728 + 8 * e);
+        let mark = four(bytes, 748 + 4 * e);
+        start <= v
+            && magnitude <= TOP
+            && (start != 0 || magnitude == 0)
+            && mark_holds(mark, start != 0)
     });
 
-    gatherer && places && phase_in_range && change && events
+    gatherer && places && phase_in_range && change && change_mark && events
 }

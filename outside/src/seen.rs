@@ -1,6 +1,10 @@
 //! Counts of what the random cases have seen.
 
+use crate::marks::Marks;
+use crate::pairs::{pairs, rules};
 use crate::room::RECORD;
+use crate::rules::Q;
+use std::collections::BTreeMap;
 
 /// Names of the calls that are counted.
 pub const CALLS: [&str; 7] = ["start", "feed", "look", "save", "restore", "begin", "advance"];
@@ -9,8 +13,12 @@ pub const CALLS: [&str; 7] = ["start", "feed", "look", "save", "restore", "begin
 #[derive(Default)]
 pub struct Seen {
     pub calls: [u64; 7],
-    /// Records written by advance, by kind, 1 to 4.
-    pub records: [u64; 5],
+    /// Records written by advance, by kind, 1 to 4, without and with the mark.
+    pub records: [[u64; 2]; 5],
+    /// What the marks of recordings have shown.
+    pub marks: Marks,
+    /// Rules of 11, each broken alone, and the nearest accepted image.
+    pub rules: BTreeMap<&'static str, [u64; 2]>,
     /// Why advance took no more samples, 0 to 2.
     pub whys: [u64; 3],
     /// Refusals of begin, 1 to 7, and of advance, 7 to 13.
@@ -26,7 +34,8 @@ pub struct Seen {
     pub not_ended: [u64; 5],
 }
 
-const KINDS: [(usize, &str); 4] = [(1, "dip"), (2, "swell"), (3, "interruption"), (4, "rvc")];
+/// The kinds of record.
+pub const KINDS: [(usize, &str); 4] = [(1, "dip"), (2, "swell"), (3, "interruption"), (4, "rvc")];
 
 impl Seen {
     pub fn call(&mut self, name: &str) {
@@ -37,8 +46,12 @@ impl Seen {
     pub fn fed(&mut self, why: u64, records: &[u8]) {
         self.whys[why as usize] += 1;
         for x in records.chunks_exact(RECORD) {
-            self.records[x[0] as usize] += 1;
+            self.records[x[0] as usize][x[1] as usize] += 1;
         }
+    }
+
+    pub fn rule(&mut self, rule: &'static str, broken: bool) {
+        self.rules.entry(rule).or_default()[!broken as usize] += 1;
     }
 
     pub fn text(&mut self, told: &str) {
@@ -56,7 +69,8 @@ impl Seen {
             add(name.to_string(), count);
         }
         for (kind, name) in KINDS {
-            add(format!("record {name}"), self.records[kind]);
+            add(format!("record {name}, mark 0"), self.records[kind][0]);
+            add(format!("record {name}, mark 1"), self.records[kind][1]);
         }
         add("changes dropped".into(), self.dropped);
         add("built images".into(), self.built);
@@ -69,10 +83,16 @@ impl Seen {
         for number in 7..=13 {
             add(format!("advance refuses {number}"), self.advance_refusals[number]);
         }
+        for rule in rules(&pairs(Q)) {
+            let [broken, accepted] = self.rules.get(rule).copied().unwrap_or_default();
+            add(format!("11 by {rule}"), broken);
+            add(format!("accepted by {rule}"), accepted);
+        }
         add("texts".into(), self.texts);
         for (kind, name) in KINDS {
             add(format!("not ended: {name}"), self.not_ended[kind]);
         }
+        list.extend(self.marks.counts());
         list
     }
 }
@@ -80,7 +100,7 @@ impl Seen {
 /// Prints every count, and those that are 0 again; tells whether there are none.
 pub fn tell(counts: &[(String, u64)]) -> bool {
     for (name, count) in counts {
-        println!("{name:<30}{count:>12}");
+        println!("{name:<60}{count:>12}");
     }
     let missing: Vec<&str> = counts.iter().filter(|x| x.1 == 0).map(|x| x.0.as_str()).collect();
     if !missing.is_empty() {

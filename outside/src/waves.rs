@@ -13,9 +13,11 @@ pub fn settings(rng: &mut Rng) -> Settings {
     };
     let f = one_of(&[50, 60], rng);
     let u = match rng.range(0, 9) {
-        0..=3 => one_of(&[1600, 16_000, 160_000], rng),
-        4 => one_of(&[16, 17, 524_287, 524_288], rng),
-        5..=7 => 100 * rng.range(1, 3000),
+        0..=2 => one_of(&[1600, 16_000, 160_000], rng),
+        3 => one_of(&[16, 17, 524_287, 524_288], rng),
+        4..=5 => 100 * rng.range(1, 3000),
+        // High enough for clipped samples in most values.
+        6..=7 => one_of(&[400_000, 100 * rng.range(2000, 5200)], rng),
         8 => 16 << rng.range(0, 14),
         _ => rng.range(16, 524_288),
     };
@@ -40,7 +42,7 @@ pub fn settings(rng: &mut Rng) -> Settings {
 fn levels(rng: &mut Rng) -> (i64, i64, i64, i64) {
     if rng.chance(60) {
         let g = one_of(&[0, 100, 200, 200, 500], rng);
-        return (one_of(&[1, 500, 1000], rng), 9000, one_of(&[11_000, 11_200], rng), g);
+        return (one_of(&[1, 500, 1000, 5000], rng), 9000, one_of(&[11_000, 11_200], rng), g);
     }
     // D − G ≥ I ≥ 1 and W > D + 2 × G, so W is at least 3 × G + 2.
     let w = if rng.chance(20) { 20_000 } else { rng.range(2, 20_000) };

@@ -1,48 +1,19 @@
 //! The paper's bench readings, marked [t], and the event program's example. Each feed goes through
 //! the engineer, the logger and every host (with the feature, the proved library too).
 
+mod common;
+
+use common::{bytes, feed, numbers, Q};
 use outside::engineer::{Engineer, Fed, Looked};
 use outside::hosts::hosts;
-use outside::logger::Logger;
+use outside::rules::IMAGE;
 use outside::{program, waves};
 
-/// The settings called Q: M, F, U, T, H, I, D, W, G.
-const Q: [u32; 9] = [8, 50, 1600, 300, 150, 500, 9000, 11_000, 200];
-
-fn bytes(settings: [u32; 9]) -> Vec<u8> {
-    settings.iter().flat_map(|x| x.to_le_bytes()).collect()
-}
-
-/// Feeds all samples to both; gives what they tell, the records, and a look.
+/// Feeds all samples; gives what is told, the records, and a look.
 fn run(settings: [u32; 9], samples: &[i16], room: usize) -> (Fed, Vec<[u32; 5]>, Looked) {
-    let mut engineer = Engineer::start(&bytes(settings)).unwrap();
-    let mut logger = Logger::start(&bytes(settings)).unwrap();
-    let (fed, records) = engineer.feed(samples, room);
-    let mut buffer = vec![0; room];
-    let block = waves::bytes(samples);
-    assert_eq!(logger.feed(block.as_chunks::<2>().0, &mut buffer), fed);
-    assert_eq!(buffer[..records.len()], records[..]);
-    assert_eq!(logger.look(), engineer.look());
-    let mut image = [0; 620];
-    logger.save(&mut image).unwrap();
-    assert_eq!(image[..], engineer.image()[..]);
-    for host in hosts() {
-        let (mut fresh, mut image, mut reply) = ([0; 620], [0; 620], [0; 24]);
-        let mut buffer = vec![0; room];
-        assert_eq!((host.begin)(&bytes(settings), &mut fresh), 0);
-        assert_eq!((host.advance)(&fresh, &block, &mut image, &mut buffer, &mut reply), 0);
-        assert_eq!(image[..], engineer.image()[..], "{}", host.name);
-        assert_eq!(buffer[..records.len()], records[..], "{}", host.name);
-        let told = [fed.taken, fed.written, fed.why].map(u64::to_le_bytes).concat();
-        assert_eq!(reply[..], told[..], "{}", host.name);
-    }
-    let list = records.chunks_exact(20).map(numbers).collect();
-    (fed, list, engineer.look())
-}
-
-fn numbers(record: &[u8]) -> [u32; 5] {
-    let four = |at: usize| u32::from_le_bytes(record[at..at + 4].try_into().unwrap());
-    [0, 4, 8, 12, 16].map(four)
+    let left = feed(settings, samples, room);
+    let list = left.records.chunks_exact(20).map(numbers).collect();
+    (left.fed, list, left.looked)
 }
 
 /// Half-cycles of 8 samples: how many, and the count of each sample.
@@ -173,13 +144,13 @@ fn the_end_of_v() {
     for host in hosts() {
         let advance = host.advance;
         let mut x = outside::images::Fields::fresh(outside::rules::settings(&bytes(Q)).unwrap());
-        x.mark = 1;
+        x.whole = 1;
         x.v = u32::MAX - 1;
         x.phase = 2;
         x.places[..100].fill(1600);
         x.last = 80_000;
         let samples = waves::bytes(&[100; 24]);
-        let (mut image, mut reply) = ([0; 620], [0; 24]);
+        let (mut image, mut reply) = ([0; IMAGE], [0; 24]);
         assert_eq!(advance(&x.bytes(), &samples, &mut image, &mut [], &mut reply), 0);
         assert_eq!([reply[0], reply[8], reply[16]], [15, 0, 2]);
         let y = outside::images::Fields::of(&image);

@@ -1,7 +1,12 @@
-//! The recording and the lists of calls that the proved programs are run on in the gate hold what
-//! they are there for. `files.sh` compares them with the committed ones.
+//! The recording, the lists of calls and the images that the proved programs are run on in the gate
+//! hold what they are there for. `files.sh` compares them with the committed ones.
 
-use outside::{call_lists, program};
+use outside::call_lists::{self, Tally};
+use outside::logger::Logger;
+use outside::program;
+use outside::rules::{self, IMAGE};
+use std::fs;
+use std::path::Path;
 
 fn has_lines(text: &str, starts: &[&str]) {
     for start in starts {
@@ -18,10 +23,38 @@ fn the_recording() {
     has_lines(&text.told, &["event_log: not ended: dip"]);
 }
 
+/// Everything that is counted stands in them: each call, refusal, why, phase, event and mark.
 #[test]
 fn the_lists_of_calls() {
-    let (_, text) = call_lists::files();
-    let refusals = ["refused ", "save 7", "restore 11"];
-    has_lines(&text, &refusals);
-    has_lines(&text, &["feed ", "look ", "save 0", "restore 0", "parts "]);
+    let mut seen = Tally::default();
+    let list = call_lists::files(&mut seen);
+    has_lines(&list.text, &["samples ", "parts ", "none"]);
+    for (name, count) in seen.counts() {
+        assert!(count > 0, "{name}");
+    }
+}
+
+/// The images of the Python program, read as the proved program reads them, by the rules and by the
+/// logger: three readings of the refusals.
+#[test]
+fn the_image_vectors() {
+    let folder = Path::new(env!("CARGO_MANIFEST_DIR")).join("../crates/image_vectors");
+    let input = fs::read(folder.join("stdin")).unwrap();
+    let text = fs::read_to_string(folder.join("stdout")).unwrap();
+    let mut numbers = text.lines();
+    let (good, vectors) = input.split_at(IMAGE);
+    let mut image = [good, &[0; 20]].concat();
+    for (j, vector) in vectors.chunks_exact(14).enumerate() {
+        let two = |at: usize| u16::from_le_bytes([vector[at], vector[at + 1]]) as usize;
+        let (length, offset, width) = (two(0), two(2), two(4));
+        image[offset..offset + width % 128].copy_from_slice(&vector[6..6 + width % 128]);
+        if width < 128 {
+            let number: u32 = numbers.next().unwrap().parse().unwrap();
+            let bytes = &image[..length];
+            assert_eq!(rules::restore(bytes), number, "change {j}");
+            assert_eq!(Logger::from_image(bytes).err().unwrap_or(0), number, "change {j}");
+            image[..IMAGE].copy_from_slice(good);
+        }
+    }
+    assert_eq!(numbers.next(), None);
 }

@@ -1,7 +1,12 @@
-//! The logger's root and sum of squares against the engineer's, at the edges.
+//! The logger's root, sum of squares and mark against the engineer's, at the edges.
 
 use outside::rng::Rng;
-use outside::{readings, squares, waves};
+use outside::squares::{self, Part};
+use outside::{readings, waves};
+
+fn part(samples: &[i16]) -> Part {
+    Part::NONE.with(waves::bytes(samples).as_chunks::<2>().0)
+}
 
 #[test]
 fn roots_on_both_sides_of_each_step() {
@@ -30,9 +35,26 @@ fn sums_of_every_length() {
     for length in 0..=256 {
         let random: Vec<i16> = (0..length).map(|_| rng.next() as i16).collect();
         for samples in [vec![-32_768; length], vec![32_767; length], vec![1; length], random] {
-            let bytes = waves::bytes(&samples);
-            let by_logger = squares::energy(bytes.as_chunks::<2>().0);
-            assert_eq!(by_logger as i64, readings::energy(&samples));
+            assert_eq!(part(&samples).sum as i64, readings::energy(&samples));
+            assert_eq!(part(&samples).clipped, readings::has_clipped(&samples));
+        }
+    }
+}
+
+/// One sample at each place, among others that are just not clipped.
+#[test]
+fn one_clipped_sample() {
+    for length in 1..=256 {
+        for other in [0, -32_767, 32_766] {
+            let mut samples = vec![other; length];
+            assert!(!part(&samples).clipped);
+            for at in 0..length {
+                for clipped in [-32_768, 32_767] {
+                    samples[at] = clipped;
+                    assert!(part(&samples).clipped, "{clipped} at {at} of {length}, else {other}");
+                }
+                samples[at] = other;
+            }
         }
     }
 }

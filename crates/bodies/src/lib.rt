@@ -7,14 +7,13 @@ use rvc::Phase;
 use settings::Settings;
 use threshold::Standing;
 ghost use mathlib.Core.Path.{_≡_};
-ghost use mathlib.Core.List.{_∷_};
+ghost use mathlib.Core.List.{_∷_, _++_};
 ghost use lib.ListN.{length};
 ghost use Rattle.octets.specs.Bytes.{row};
-ghost use Rattle.numbers.specs.Notation.{flag};
 ghost use Rattle.reading.specs.Layout.{tableLength, gathererWidths, gathererLength, valuesWidths, valuesLength, eventsWidths, eventsLength};
 ghost use Rattle.reading.specs.Image.{table};
 ghost use Rattle.rms.specs.Gather.{gathererRow};
-ghost use Rattle.rvc.specs.Phase.{phaseRow};
+ghost use Rattle.rvc.specs.Phase.{phaseRow, phaseMark};
 ghost use Rattle.bodies.specs.Bodies.{detectorRow, phaseOfNumber, tableNumber, tableRefusal, gathererTold, gathererAnswer, WindowTold};
 ghost use Rattle.bodies.specs.Bodies.{detectorTold, detectorAnswer};
 
@@ -34,6 +33,7 @@ pub struct WindowRead {
     pub verdict: Verdict,
     pub count: u64,
     pub window: [u32; 120],
+    pub marks: [u8; 120],
 }
 
 pub enum DetectorRead {
@@ -41,20 +41,22 @@ pub enum DetectorRead {
     Refused,
 }
 
-// Body 2: count, sum, last sum, mark.
-const GATHERER_WIDTHS: [u8; 4] = [4, 8, 8, 4];
+// Body 2: count, sum, last sum, whether there is a last half-cycle; the marks of the half-cycle in progress and of the last one.
+const GATHERER_WIDTHS: [u8; 6] = [4, 8, 8, 4, 4, 4];
 
-const GATHERER_LENGTH: usize = 4 + 8 + 8 + 4;
+const GATHERER_LENGTH: usize = 4 + 8 + 8 + 4 + 4 + 4;
 
-// Body 3: V, and 120 places.
+// Body 3: V, 120 places for values, and as many for their marks.
 const COUNT_LENGTH: usize = 4;
 
-const VALUES_LENGTH: usize = COUNT_LENGTH + 4 * 120;
+const MARKS_AT: usize = COUNT_LENGTH + 4 * 120;
 
-// Body 4: the phase and a change's four numbers; start and magnitude of dip, swell and interruption.
-const EVENTS_WIDTHS: [u8; 11] = [4; 11];
+const VALUES_LENGTH: usize = MARKS_AT + 120;
 
-const EVENTS_LENGTH: usize = 4 * 11;
+// Body 4: the phase and a change's four numbers; start and magnitude of dip, swell and interruption; the marks of dip, swell, interruption and change.
+const EVENTS_WIDTHS: [u8; 15] = [4; 15];
+
+const EVENTS_LENGTH: usize = 4 * 15;
 
 // Where the sections stand, one behind the other; the table has four entries of 4, 2 and 2 bytes.
 pub const SETTINGS_AT: usize = 4 * (4 + 2 + 2);
@@ -106,12 +108,6 @@ pub fn read_table(part: &[u8]) -> Verdict
     }
 }
 
-fn mark_of(whole: bool) -> u64
-    ensures { λ r. ⌜ r ≡ flag whole ⌝ }
-{
-    if whole { 1 } else { 0 }
-}
-
 // Body 2.
 pub fn put_gatherer(part: &mut [u8], gatherer: Gatherer)
     requires { ⌜ length (now part) ≡ gathererLength ⌝ }
@@ -122,7 +118,9 @@ pub fn put_gatherer(part: &mut [u8], gatherer: Gatherer)
         gatherer.count as u64,
         gatherer.sum,
         gatherer.last,
-        mark_of(gatherer.whole),
+        numbers::flag(gatherer.whole) as u64,
+        numbers::flag(gatherer.clipped) as u64,
+        numbers::flag(gatherer.last_clipped) as u64,
     ];
     octets::put_row(part, &widths, &numbers);
 }
@@ -132,7 +130,7 @@ pub fn read_gatherer(part: &[u8], settings: Settings) -> GathererRead
     ensures { λ r. ⌜ gathererTold r ≡ gathererAnswer settings (now (part .entry)) ⌝ }
 {
     let widths = GATHERER_WIDTHS;
-    let mut numbers = [0u64; 4];
+    let mut numbers = [0u64; 6];
     octets::get_row(part, &widths, &mut numbers);
     if rules::gatherer_good(settings.samples, &numbers) {
         GathererRead::Read(Gatherer {
@@ -140,6 +138,8 @@ pub fn read_gatherer(part: &[u8], settings: Settings) -> GathererRead
             sum: numbers[1],
             last: numbers[2],
             whole: numbers[3] == 1,
+            clipped: numbers[4] == 1,
+            last_clipped: numbers[5] == 1,
         })
     } else {
         GathererRead::Refused
@@ -147,12 +147,13 @@ pub fn read_gatherer(part: &[u8], settings: Settings) -> GathererRead
 }
 
 // Body 3.
-pub fn put_values(part: &mut [u8], count: u64, window: &[u32])
-    requires { ⌜ (length (now part) ≡ valuesLength) × (length (now window) ≡ 120) ⌝ }
-    ensures { λ _. ⌜ now (part .exit) ≡ row valuesWidths (count ∷ now (window .entry)) ⌝ }
+pub fn put_values<'a>(part: &mut [u8], count: u64, window: &'a [u32], marks: &'a [u8])
+    requires { ⌜ (length (now part) ≡ valuesLength) × (length (now window) ≡ 120) × (length (now marks) ≡ 120) ⌝ }
+    ensures { λ _. ⌜ now (part .exit) ≡ row valuesWidths (count ∷ (now (window .entry) ++ now (marks .entry))) ⌝ }
 {
     octets::put_number(&mut part[0..COUNT_LENGTH], count);
-    octets::put_words(&mut part[COUNT_LENGTH..VALUES_LENGTH], window);
+    octets::put_words(&mut part[COUNT_LENGTH..MARKS_AT], window);
+    octets::copy(&mut part[MARKS_AT..VALUES_LENGTH], marks);
 }
 
 // `whole` is the gatherer's, of the body before.
@@ -162,18 +163,22 @@ pub fn read_window(part: &[u8], settings: Settings, whole: bool) -> WindowRead
 {
     let count = octets::number(&part[0..COUNT_LENGTH]);
     let mut window = [0u32; 120];
-    octets::get_words(&part[COUNT_LENGTH..VALUES_LENGTH], &mut window);
-    if rules::values_good(&window, count, settings.window_length(), whole) {
+    octets::get_words(&part[COUNT_LENGTH..MARKS_AT], &mut window);
+    let mut marks = [0u8; 120];
+    octets::copy(&mut marks, &part[MARKS_AT..VALUES_LENGTH]);
+    if rules::values_good(&window, &marks, count, settings.window_length(), whole) {
         WindowRead {
             verdict: Verdict::Good,
             count,
             window,
+            marks,
         }
     } else {
         WindowRead {
             verdict: Verdict::Bad,
             count,
             window,
+            marks,
         }
     }
 }
@@ -187,6 +192,18 @@ fn numbers_of(phase: Phase) -> [u64; 5]
         Phase::Unsettled => [1, 0, 0, 0, 0],
         Phase::Steady => [2, 0, 0, 0, 0],
         Phase::Changing(change) => [3, change.start, change.sum, change.difference, change.stand],
+    }
+}
+
+// The mark of a change in progress, 0 outside one.
+fn change_mark(phase: Phase) -> u64
+    ensures { λ r. ⌜ r ≡ phaseMark phase ⌝ }
+{
+    match phase {
+        Phase::Filling => 0,
+        Phase::Unsettled => 0,
+        Phase::Steady => 0,
+        Phase::Changing(change) => numbers::flag(change.clipped) as u64,
     }
 }
 
@@ -212,6 +229,10 @@ pub fn put_detector(part: &mut [u8], detector: Detector)
         swell.magnitude,
         interruption.start,
         interruption.magnitude,
+        numbers::flag(dip.clipped) as u64,
+        numbers::flag(swell.clipped) as u64,
+        numbers::flag(interruption.clipped) as u64,
+        change_mark(phase),
     ];
     octets::put_row(part, &widths, &numbers);
 }
@@ -233,7 +254,7 @@ pub fn read_detector(part: &[u8], settings: Settings, count: u64) -> DetectorRea
     ensures { λ r. ⌜ detectorTold r ≡ detectorAnswer settings count (now (part .entry)) ⌝ }
 {
     let widths = EVENTS_WIDTHS;
-    let mut numbers = [0u64; 11];
+    let mut numbers = [0u64; 15];
     octets::get_row(part, &widths, &mut numbers);
     if !rules::events_good(&numbers, settings.window_length(), count) {
         return DetectorRead::Refused;
@@ -243,19 +264,23 @@ pub fn read_detector(part: &[u8], settings: Settings, count: u64) -> DetectorRea
         sum: numbers[2],
         difference: numbers[3],
         stand: numbers[4],
+        clipped: numbers[14] == 1,
     };
     let phase = phase_of(numbers[0], change);
     let dip = Standing {
         start: numbers[5],
         magnitude: numbers[6],
+        clipped: numbers[11] == 1,
     };
     let swell = Standing {
         start: numbers[7],
         magnitude: numbers[8],
+        clipped: numbers[12] == 1,
     };
     let interruption = Standing {
         start: numbers[9],
         magnitude: numbers[10],
+        clipped: numbers[13] == 1,
     };
     DetectorRead::Read(Detector {
         count,

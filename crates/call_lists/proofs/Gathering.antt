@@ -11,7 +11,8 @@ use mir.Syntax.{w16}
 use mir.Val.{toZ, ofZ}
 use mir.ValLaws.{toZ-ofZ}
 use Rattle.numbers.specs.Notation.{if_then_else_}
-use Rattle.reading.specs.Values.{Sample}
+use Rattle.reading.specs.Values.{Sample, squares}
+use Rattle.reading_laws.specs.RecordingsLaws.{squares-le}
 use Rattle.rms.specs.declared.Part.{Part}
 use Rattle.rms.specs.declared.Gatherer.{Gatherer}
 use Rattle.rms.specs.declared.Share.{Share}
@@ -22,7 +23,7 @@ use Rattle.rms.specs.CutLaws.{Within, cut-within, next-below}
 
 pub none-valid : (m : ℕ) (g : Gatherer) → g ≡ noSample → 0 < m → ValidGatherer m g
 none-valid m g e some =
-    subst (ValidGatherer m) (sym e) (some, (omega arith, (omega arith, (omega arith, λ _. refl))))
+    subst (ValidGatherer m) (sym e) (some, (omega arith, (omega arith, (omega arith, (λ _. refl, ((omega arith, λ _. refl), (omega arith, λ _. refl)))))))
 
 -- one sample, which the machine reads back from its bits
 sample : (x : ℤ) → mag x < 2 ^ 15 → Sample x
@@ -37,7 +38,7 @@ gathered-valid m g x r v small is =
     part = partOf (x ∷ [])
 
     fits : PartFits m g part
-    fits = partOf-fits m g (x ∷ []) (sample x small, tt) (omega (arith, v .0))
+    fits = partOf-fits m g (x ∷ []) (squares-le (x ∷ []) (sample x small, tt)) (omega (arith, v .0))
 
     go : (b : Bool) → endsWith m g x ≡ b → ValidGatherer m (if b then withHalf g part else withPart g part)
     go true e = withHalf-valid m g part v fits
@@ -70,7 +71,9 @@ module _ (m : ℕ) (samples : List ℤ) where
     pub half-valid : (r : Gatherer) (p : Part) → (p ≡ partOf half) × (p .squares ≤ p .count * 2 ^ 30) → r ≡ withHalf g p → ValidGatherer m r
     half-valid r p sums is =
         let c : p .count ≡ length half = ap (λ (k : Part). k .count) (sums .0) in
-        subst (ValidGatherer m) (sym is) (withHalf-valid m g p (now .valid) (record { count-le = omega (arith, half-long, now .fits); squares-le = sums .1 }))
+        let s : p .squares ≡ squares half = ap (λ (k : Part). k .squares) (sums .0) in
+        let fits = partOf-fits m g half (omega (arith, sums .1)) (omega (arith, half-long, now .fits)) in
+        subst (ValidGatherer m) (sym is) (withHalf-valid m g p (now .valid) (subst (PartFits m g) (sym (sums .0)) fits))
 
     -- what is left, which ends none
     abbrev left : List ℤ

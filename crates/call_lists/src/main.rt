@@ -13,7 +13,8 @@
 //   3 save                length of the image buffer   none                save, 0 or the refusal's number, image buffer
 //   4 restore of a save   which save, from 0           none                restore, 0 or the refusal's number
 //   5 restore of bytes    none                         image               restore, 0 or the refusal's number
-//   6 gather              samples in a half-cycle      samples             samples, then parts, each with count, sum, last sum, mark, halves
+//   6 gather              samples in a half-cycle      samples             samples, then parts, each with count, sum, last sum, whether there is
+//                                                                          one, the marks of the half in progress and the last, halves
 //
 // A list is a start and its calls; a refused start has none. Each answer is a line, with a space between words; numbers are in base ten, buffers in base
 // sixteen. Samples are low byte first; a last odd byte is none. The first 16 accepted saves of a list are kept, and named by their place among them; the
@@ -365,6 +366,8 @@ fn print_counted(word: &[u8], counted: Counted) {
     print_number(gatherer.sum);
     print_number(gatherer.last);
     print_mark(gatherer.whole);
+    print_mark(gatherer.clipped);
+    print_mark(gatherer.last_clipped);
     print_number(counted.halves as u64);
     end_line();
 }

@@ -1,13 +1,15 @@
-// One value: what is kept of the values beside the window, after it, and the events due at it.
+// One value: what is kept of the values beside the window, after it, and the records due at it.
 use reading::Event;
 use reading::Kind;
 use records::Due;
+use rms::Marked;
 use rvc::Joining;
 use rvc::Moved;
 use rvc::Phase;
 use settings::Scaled;
 use settings::Settings;
 use threshold::Standing;
+use window::Sums;
 ghost use mathlib.Core.Path.{_≡_};
 ghost use Prim.Native.Nat.{_≤_, _<_};
 ghost use lib.ListN.{length};
@@ -25,11 +27,11 @@ pub struct Detector {
     pub phase: Phase,
 }
 
-// The detector after a value, the events due at it, and the sum of the window with it.
+// The detector after a value, the records due at it, and the sums of the window with it.
 pub struct Tried {
     pub after: Detector,
     pub due: Due,
-    pub sum: u64,
+    pub sums: Sums,
 }
 
 // Whether a dip or a swell first stands at value i.
@@ -57,6 +59,17 @@ fn leaving_value(count: u64, window_length: u64, window: &[u32]) -> u64
     window[0] as u64
 }
 
+// The mark of that value, 0 where none leaves.
+fn leaving_mark(count: u64, window_length: u64, marks: &[u8]) -> u64
+    requires { ⌜ 0 < length (now marks) ⌝ }
+    ensures { λ r. ⌜ r ≡ leavingOf «window_length» count (now (marks .entry)) ⌝ }
+{
+    if count < window_length {
+        return 0;
+    }
+    marks[0] as u64
+}
+
 impl Detector {
     // V's end.
     pub const LAST_VALUE: u64 = 4_294_967_295;
@@ -74,7 +87,7 @@ impl Detector {
         }
     }
 
-    // The phase after a value that joins the window, and the event of a change that ends with it.
+    // The phase after a value that joins the window, and the record of a change that ends with it.
     fn phase_after(
         self,
         scaled: Scaled,
@@ -97,26 +110,30 @@ impl Detector {
         settings: Settings,
         scaled: Scaled,
         window: &[u32],
-        sum: u64,
-        value: u32,
+        marks: &[u8],
+        sums: Sums,
+        value: Marked,
     ) -> Tried
-        requires { ⌜ TryReady settings scaled self (now window) sum value ⌝ }
-        ensures { λ t. ⌜ t ≡ triedBy settings value self (now (window .entry)) ⌝ }
+        requires { ⌜ TryReady settings scaled self (now window) (now marks) sums value ⌝ }
+        ensures { λ t. ⌜ t ≡ triedBy settings value self (now (window .entry)) (now (marks .entry)) ⌝ }
     {
         let i = self.count + 1;
-        let wide = value as u64;
-        let dip = self.dip.step(Kind::Dip, scaled.dip, i, wide);
-        let swell = self.swell.step(Kind::Swell, scaled.swell, i, wide);
+        let wide = value.value as u64;
+        let clipped = value.clipped;
+        let dip = self.dip.step(Kind::Dip, scaled.dip, i, wide, clipped);
+        let swell = self.swell.step(Kind::Swell, scaled.swell, i, wide, clipped);
         let interruption = self.interruption
-            .step(Kind::Interruption, scaled.interruption, i, wide);
+            .step(Kind::Interruption, scaled.interruption, i, wide, clipped);
         let window_length = settings.window_length();
         let leaving = leaving_value(self.count, window_length, window);
+        let leaving_mark = leaving_mark(self.count, window_length, marks);
         let joining = Joining {
             number: i,
-            value,
+            value: value.value,
             leaving,
-            before: sum,
-            after: sum - leaving + wide,
+            mark: leaving_mark,
+            before: sums.values,
+            after: sums.values - leaving + wide,
             stands: stands_at(i, dip, swell),
         };
         let moved = self.phase_after(scaled, window_length, window, joining);
@@ -136,10 +153,14 @@ impl Detector {
                 .ended(Event::INTERRUPTION, i, interruption),
             change,
         };
+        let marked = sums.marks - leaving_mark + numbers::flag(clipped) as u64;
         Tried {
             after,
             due,
-            sum: joining.after,
+            sums: Sums {
+                values: joining.after,
+                marks: marked,
+            },
         }
     }
 }

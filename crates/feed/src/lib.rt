@@ -3,9 +3,11 @@ use detection::Detector;
 use reading::Told;
 use records::RECORD_LENGTH;
 use rms::Gatherer;
+use rms::Marked;
 use rms::Part;
 use settings::Scaled;
 use settings::Settings;
+use window::Sums;
 ghost use mathlib.Core.Path.{_≡_};
 ghost use Prim.Native.Nat.{_+_, _*_, _^_, _≤_};
 ghost use lib.ListN.{length};
@@ -14,11 +16,11 @@ ghost use Rattle.state.specs.State.{stateWith, ValidState};
 ghost use Rattle.state.specs.Calls.{fedWith};
 ghost use Rattle.feed.specs.Feed.{HalfReady, refusedHalf, halfOf, halfOutcome, walkedWith, walkedOf};
 
-// What the end of a half-cycle leaves of the logger beside the window, the window's sum, how many records were written, and why it was not taken, or 0.
+// What the end of a half-cycle leaves of the logger beside the window, the window's sums, how many records were written, and why it was not taken, or 0.
 struct Half {
     gatherer: Gatherer,
     detector: Detector,
-    sum: u64,
+    sums: Sums,
     written: usize,
     why: u32,
 }
@@ -31,32 +33,33 @@ pub struct Walked {
 }
 
 // Nothing is changed, and why.
-fn refused(gatherer: Gatherer, detector: Detector, sum: u64, why: u32) -> Half
-    ensures { λ h. ⌜ h ≡ refusedHalf gatherer detector sum why ⌝ }
+fn refused(gatherer: Gatherer, detector: Detector, sums: Sums, why: u32) -> Half
+    ensures { λ h. ⌜ h ≡ refusedHalf gatherer detector sums why ⌝ }
 {
     Half {
         gatherer,
         detector,
-        sum,
+        sums,
         written: 0,
         why,
     }
 }
 
-// A part ends the half-cycle in progress; `sum` is the sum of the window. Nothing changes where V would pass its end or the records do not fit.
+// A part ends the half-cycle in progress; `sums` are the window's. Nothing changes where V would pass its end or the records do not fit.
 fn complete(
     settings: Settings,
     scaled: Scaled,
     gatherer: Gatherer,
     detector: Detector,
-    sum: u64,
+    sums: Sums,
     window: &mut [u32],
+    marks: &mut [u8],
     part: Part,
     records: &mut [u8],
 ) -> Half
-    requires { ⌜ HalfReady settings scaled gatherer detector sum (now window) part ⌝ }
-    ensures { λ h. ⌜ halfOf settings h (now (window .exit)) (now (records .exit))
-        ≡ halfOutcome (stateWith settings gatherer detector (now (window .entry))) part (now (records .entry)) ⌝ }
+    requires { ⌜ HalfReady settings scaled gatherer detector sums (now window) (now marks) part ⌝ }
+    ensures { λ h. ⌜ halfOf settings h (now (window .exit)) (now (marks .exit)) (now (records .exit))
+        ≡ halfOutcome (stateWith settings gatherer detector (now (window .entry)) (now (marks .entry))) part (now (records .entry)) ⌝ }
 {
     let half = gatherer.with_half(part);
     let whole = gatherer.whole;
@@ -64,31 +67,43 @@ fn complete(
         return Half {
             gatherer: half,
             detector,
-            sum,
+            sums,
             written: 0,
             why: 0,
         };
     }
     let count = detector.count;
     if count == Detector::LAST_VALUE {
-        return refused(gatherer, detector, sum, 2);
+        return refused(gatherer, detector, sums, 2);
     }
     let window_length = settings.window_length();
     let near = window::newest(window, window_length, count);
-    let value = rms::rms_value(settings.samples, gatherer.last, half.last, near);
-    let tried = detector.try_value(settings, scaled, window, sum, value);
+    let value = Marked {
+        value: rms::rms_value(settings.samples, gatherer.last, half.last, near),
+        clipped: gatherer.last_clipped | half.last_clipped,
+    };
+    let tried = detector.try_value(settings, scaled, window, marks, sums, value);
     let due = tried.due;
     let written = due.count();
     if records.len() / RECORD_LENGTH < written {
-        return refused(gatherer, detector, sum, 1);
+        return refused(gatherer, detector, sums, 1);
     }
-    window::push(window, window_length as usize, count as usize, value);
+    let length = window_length as usize;
+    window::push(window, length, count as usize, value.value);
+    window::push_mark(
+        marks,
+        length,
+        count as usize,
+        sums.marks,
+        numbers::flag(value.clipped),
+    );
     due.put(records);
     let after = tried.after;
+    let sums_after = tried.sums;
     Half {
         gatherer: half,
         detector: after,
-        sum: tried.sum,
+        sums: sums_after,
         written,
         why: 0,
     }
@@ -126,19 +141,23 @@ pub fn walk(
     gatherer: Gatherer,
     detector: Detector,
     window: &mut [u32],
+    marks: &mut [u8],
     block: &[i16],
     records: &mut [u8],
 ) -> Walked
-    requires { ⌜ ValidState (stateWith settings gatherer detector (now window)) ⌝ }
-    ensures { λ r. ⌜ (walkedOf settings r (now (window .exit)) (now (records .exit))
-        ≡ fedWith (stateWith settings gatherer detector (now (window .entry))) (now (block .entry)) (now (records .entry)))
-        × ValidState (stateWith settings (r .gatherer) (r .detector) (now (window .exit))) ⌝ }
+    requires { ⌜ ValidState (stateWith settings gatherer detector (now window) (now marks)) ⌝ }
+    ensures { λ r. ⌜ (walkedOf settings r (now (window .exit)) (now (marks .exit)) (now (records .exit))
+        ≡ fedWith (stateWith settings gatherer detector (now (window .entry)) (now (marks .entry))) (now (block .entry)) (now (records .entry)))
+        × ValidState (stateWith settings (r .gatherer) (r .detector) (now (window .exit)) (now (marks .exit))) ⌝ }
 {
     let scaled = settings.scaled();
     let half_length = settings.samples;
     let mut g = gatherer;
     let mut d = detector;
-    let mut sum = window::sum_of(window);
+    let mut sums = Sums {
+        values: window::sum_of(window),
+        marks: window::sum_marks(marks),
+    };
     let mut at: usize = 0;
     let mut written: usize = 0;
     let mut share = g.cut(half_length, block);
@@ -151,8 +170,9 @@ pub fn walk(
             scaled,
             g,
             d,
-            sum,
+            sums,
             window,
+            marks,
             part,
             &mut records[behind..],
         );
@@ -162,7 +182,7 @@ pub fn walk(
         }
         g = half.gatherer;
         d = half.detector;
-        sum = half.sum;
+        sums = half.sums;
         written += half.written;
         at = end;
         share = g.cut(half_length, &block[at..]);

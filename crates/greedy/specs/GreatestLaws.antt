@@ -9,7 +9,7 @@ use lib.IntN.{ℤ}
 use lib.Dec.{eqb·zero-suc, eqb·suc-suc}
 use borrow.Author.Tests.{ltb-true, ltb-false, leb-true, leb-false, lt-leb, le-leb}
 use Rattle.numbers.specs.Notation.{_≤ᵇ_, _<ᵇ_, _≡ᵇ_, if_then_else_}
-use Rattle.reading.specs.declared.Event.{Event}
+use Rattle.reading.specs.declared.Record.{Record}
 use Rattle.reading.specs.Feed.{greatestTo}
 use Rattle.greedy.specs.Greedy.{Machine, Run, stopped, joined, fedBy, walkedBy, dueOver, withinEndBy, allowedBy, takenBy, whyBy}
 use Rattle.greedy.specs.GreedyLaws.{fedBy-ends, fedBy-full, fedBy-takes}
@@ -41,14 +41,14 @@ leb-sub d l room h = go (l ≤ᵇ room - d) refl
 module _ {St : Type 0} (M : Machine St) where
   pub record GreatestRun (st : St) (block : List ℤ) (room : ℕ) (r : Run St) : Type 0 where
     pub taken-is : r .taken ≡ takenBy M st block room
-    pub events-are : r .events ≡ dueOver M st (take (takenBy M st block room) block)
+    pub records-are : r .records ≡ dueOver M st (take (takenBy M st block room) block)
     pub after-is : r .after ≡ walkedBy M st (take (takenBy M st block room) block)
     pub why-is : r .why ≡ whyBy M st block (takenBy M st block room)
 
   none-taken : (st : St) (block : List ℤ) (room y : ℕ) → takenBy M st block room ≡ 0 → whyBy M st block 0 ≡ y → GreatestRun st block room (stopped st y)
   none-taken st block room y e w = record {
     taken-is = sym e;
-    events-are = sym (ap (λ (n : ℕ). dueOver M st (take n block)) e);
+    records-are = sym (ap (λ (n : ℕ). dueOver M st (take n block)) e);
     after-is = sym (ap (λ (n : ℕ). walkedBy M st (take n block)) e);
     why-is = sym (ap (whyBy M st block) e ∙ w);
   }
@@ -97,7 +97,7 @@ module _ {St : Type 0} (M : Machine St) where
         ∙ (λ i. if n ≡ᵇ length xs then 0 else if not (e i) && withinEndBy M (M .next st x) (take (n + 1) xs) then 1 else 2) in
         record {
           taken-is = ap (λ (k : ℕ). 1 + k) (ih .taken-is) ∙ (c ∙ sym t);
-          events-are = ap (λ (o : List Event). M .dueWith st x ++ o) (ih .events-are) ∙ sym (ap (λ (k : ℕ). dueOver M st (take k (x ∷ xs))) t);
+          records-are = ap (λ (o : List Record). M .dueWith st x ++ o) (ih .records-are) ∙ sym (ap (λ (k : ℕ). dueOver M st (take k (x ∷ xs))) t);
           after-is = ih .after-is ∙ sym (ap (λ (k : ℕ). walkedBy M st (take k (x ∷ xs))) t);
           why-is = ih .why-is ∙ sym (ap (whyBy M st (x ∷ xs)) t ∙ w);
         }

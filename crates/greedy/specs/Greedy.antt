@@ -5,27 +5,27 @@ use Prim.Native.Nat.{ℕ, _+_, _-_}
 use lib.ListN.{length, take}
 use lib.IntN.{ℤ}
 use Rattle.numbers.specs.Notation.{_≤ᵇ_, _<ᵇ_, _≡ᵇ_, if_then_else_}
-use Rattle.reading.specs.declared.Event.{Event}
+use Rattle.reading.specs.declared.Record.{Record}
 use Rattle.reading.specs.Feed.{greatestTo}
 
--- of one more sample: whether it would pass V's end, the events due with it, and the machine after it
+-- of one more sample: whether it would pass V's end, the records due with it, and the machine after it
 pub record Machine (St : Type 0) : Type 0 where
   pub atEnd : St → ℤ → Bool
-  pub dueWith : St → ℤ → List Event
+  pub dueWith : St → ℤ → List Record
   pub next : St → ℤ → St
 
--- a run of the greedy feed: the machine after it, the samples taken, the events of the records written, and why it stopped
+-- a run of the greedy feed: the machine after it, the samples taken, the records written, and why it stopped
 pub record Run (St : Type 0) : Type 0 where
   pub after : St
   pub taken : ℕ
-  pub events : List Event
+  pub records : List Record
   pub why : ℕ
 
 abbrev pub stopped : {St : Type 0} → St → ℕ → Run St
-stopped st y = record { after = st; taken = 0; events = []; why = y }
+stopped st y = record { after = st; taken = 0; records = []; why = y }
 
-abbrev pub joined : {St : Type 0} → ℕ → List Event → Run St → Run St
-joined n es r = record { after = r .after; taken = n + r .taken; events = es ++ r .events; why = r .why }
+abbrev pub joined : {St : Type 0} → ℕ → List Record → Run St → Run St
+joined n es r = record { after = r .after; taken = n + r .taken; records = es ++ r .records; why = r .why }
 
 -- stop where the next sample would pass V's end (2) or its records would not fit (1), else take it and go on
 unfoldable pub fedBy : {St : Type 0} → Machine St → St → List ℤ → ℕ → Run St
@@ -41,12 +41,12 @@ fedBy M st (x ∷ xs) room =
     ]
 
 module _ {St : Type 0} (M : Machine St) where
-  -- the machine after samples, and the events due with them; whether none of them passes V's end
+  -- the machine after samples, and the records due with them; whether none of them passes V's end
   abbrev pub walkedBy : St → List ℤ → St
   walkedBy st [] = st
   walkedBy st (x ∷ xs) = walkedBy (M .next st x) xs
 
-  abbrev pub dueOver : St → List ℤ → List Event
+  abbrev pub dueOver : St → List ℤ → List Record
   dueOver st [] = []
   dueOver st (x ∷ xs) = M .dueWith st x ++ dueOver (M .next st x) xs
 

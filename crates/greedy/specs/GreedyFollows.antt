@@ -12,7 +12,7 @@ use borrow.Author.Tests.{ltb-true, ltb-false, leb-true, leb-false, le-leb, lt-le
 use Rattle.settings.specs.declared.Settings.{Settings}
 use Rattle.numbers.specs.Notation.{_≤ᵇ_, _<ᵇ_, _≡ᵇ_, if_then_else_}
 use Rattle.numbers.specs.NotationLaws.{and-left}
-use Rattle.reading.specs.declared.Event.{Event}
+use Rattle.reading.specs.declared.Record.{Record}
 use Rattle.reading.specs.Values.{Samples, valueCount}
 use Rattle.reading.specs.Feed.{lastValue, completed, withinEnd, allowed, taken, why}
 use Rattle.reading_laws.specs.RecordingsLaws.{samples-append, samples-take, valueCount-grow}
@@ -32,7 +32,7 @@ module _ (s : Settings) (some : 0 < s .samples) (rec : List ℤ) (x : ℤ) (xs :
   abbrev longer : List ℤ
   longer = rec ++ (x ∷ [])
 
-  abbrev first : List Event
+  abbrev first : List Record
   first = completed s rec (x ∷ []) 1
 
   completed-cons : (k : ℕ) → completed s rec (x ∷ xs) (suc k) ≡ first ++ completed s longer xs k
@@ -94,12 +94,12 @@ module _ (s : Settings) (some : 0 < s .samples) {St : Type 0} (M : Machine St) (
   abbrev pub fedOf : List ℤ → List ℤ → ℕ → Run St
   fedOf rec block room =
       let n = taken s rec block room in
-      record { after = stateOf (rec ++ take n block); taken = n; events = completed s rec block n; why = why s rec block n }
+      record { after = stateOf (rec ++ take n block); taken = n; records = completed s rec block n; why = why s rec block n }
 
   none-of : (rec block : List ℤ) (room y : ℕ) → taken s rec block room ≡ 0 → why s rec block 0 ≡ y → stopped (stateOf rec) y ≡ fedOf rec block room
   none-of rec block room y e w =
-      sym ((λ i. record { after = stateOf (rec ++ take (e i) block); taken = e i; events = completed s rec block (e i); why = why s rec block (e i) })
-      ∙ (λ i. record { after = stateOf (append-nil rec i); taken = 0; events = completed-none s some rec block i; why = w i }))
+      sym ((λ i. record { after = stateOf (rec ++ take (e i) block); taken = e i; records = completed s rec block (e i); why = why s rec block (e i) })
+      ∙ (λ i. record { after = stateOf (append-nil rec i); taken = 0; records = completed-none s some rec block i; why = w i }))
 
   later-of : (rec : List ℤ) (x : ℤ) (xs : List ℤ) (room later : ℕ) → taken s rec (x ∷ xs) room ≡ suc (taken s (rec ++ (x ∷ [])) xs later) →
       joined 1 (completed s rec (x ∷ []) 1) (fedOf (rec ++ (x ∷ [])) xs later) ≡ fedOf rec (x ∷ xs) room
@@ -109,17 +109,17 @@ module _ (s : Settings) (some : 0 < s .samples) {St : Type 0} (M : Machine St) (
       (λ i. record {
         after = stateOf (sym (one-later s some rec x xs n) i);
         taken = c i;
-        events = sym (completed-cons s some rec x xs n) i;
+        records = sym (completed-cons s some rec x xs n) i;
         why = sym (why-later s some rec x xs n) i;
       })
-      ∙ sym (λ i. record { after = stateOf (rec ++ take (e i) (x ∷ xs)); taken = e i; events = completed s rec (x ∷ xs) (e i); why = why s rec (x ∷ xs) (e i) })
+      ∙ sym (λ i. record { after = stateOf (rec ++ take (e i) (x ∷ xs)); taken = e i; records = completed s rec (x ∷ xs) (e i); why = why s rec (x ∷ xs) (e i) })
 
   pub fedBy-follows : (block rec : List ℤ) (room : ℕ) → valueCount s rec ≤ lastValue → fedBy M (stateOf rec) block room ≡ fedOf rec block room
   unfolding fedBy
   fedBy-follows [] rec room within = none-of rec [] room 0 refl refl
   fedBy-follows (x ∷ xs) rec room within = go (withinEnd s rec (x ∷ []) 1) (room <ᵇ length first) refl refl (fedBy-follows xs (rec ++ (x ∷ [])) later)
     where
-      first : List Event
+      first : List Record
       first = completed s rec (x ∷ []) 1
 
       later : ℕ
@@ -132,7 +132,7 @@ module _ (s : Settings) (some : 0 < s .samples) {St : Type 0} (M : Machine St) (
       due-is = steps .due-of rec x
 
       full-is : (room <ᵇ length (M .dueWith (stateOf rec) x)) ≡ (room <ᵇ length first)
-      full-is = ap (λ (d : List Event). room <ᵇ length d) due-is
+      full-is = ap (λ (d : List Record). room <ᵇ length d) due-is
 
       go : (b f : Bool) → withinEnd s rec (x ∷ []) 1 ≡ b → (room <ᵇ length first) ≡ f →
           (valueCount s (rec ++ (x ∷ [])) ≤ lastValue → fedBy M (stateOf (rec ++ (x ∷ []))) xs later ≡ fedOf (rec ++ (x ∷ [])) xs later)

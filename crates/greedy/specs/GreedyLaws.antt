@@ -8,14 +8,14 @@ use lib.ListN.{length, length-append}
 use lib.IntN.{ℤ}
 use borrow.Author.Tests.{ltb-false}
 use Rattle.numbers.specs.Notation.{_<ᵇ_, _≡ᵇ_, if_then_else_}
-use Rattle.reading.specs.declared.Event.{Event}
+use Rattle.reading.specs.declared.Record.{Record}
 use Rattle.greedy.specs.Greedy.{Machine, Run, stopped, joined, fedBy}
 
 -- a run takes no more samples than the block has, all of them where nothing stops it, and writes no more records than fit
 pub record Bounded {St : Type 0} (xs : List ℤ) (room : ℕ) (r : Run St) : Type 0 where
   pub most : r .taken ≤ length xs
   pub whole : r .why ≡ 0 → r .taken ≡ length xs
-  pub fits : length (r .events) ≤ room
+  pub fits : length (r .records) ≤ room
 
 module _ {St : Type 0} (M : Machine St) where
   -- a block that begins with x, by what x does
@@ -39,29 +39,29 @@ module _ {St : Type 0} (M : Machine St) where
 
   -- two blocks as one: the first, and where it was taken whole the second with the room left
   abbrev pub andThen : Run St → List ℤ → ℕ → Run St
-  andThen a ys room = if a .why ≡ᵇ 0 then joined (a .taken) (a .events) (fedBy M (a .after) ys (room - length (a .events))) else a
+  andThen a ys room = if a .why ≡ᵇ 0 then joined (a .taken) (a .records) (fedBy M (a .after) ys (room - length (a .records))) else a
 
   joined-none : (r : Run St) → r ≡ joined 0 [] r
   joined-none r =
       let e : r .taken ≡ 0 + r .taken = omega arith in
-      λ i. record { after = r .after; taken = e i; events = r .events; why = r .why }
+      λ i. record { after = r .after; taken = e i; records = r .records; why = r .why }
 
-  pub joined-joined : (n k : ℕ) (a b : List Event) (r : Run St) → joined n a (joined k b r) ≡ joined (n + k) (a ++ b) r
+  pub joined-joined : (n k : ℕ) (a b : List Record) (r : Run St) → joined n a (joined k b r) ≡ joined (n + k) (a ++ b) r
   joined-joined n k a b r =
       let e : n + (k + r .taken) ≡ n + k + r .taken = omega arith in
-      λ i. record { after = r .after; taken = e i; events = sym (append-assoc a b (r .events)) i; why = r .why }
+      λ i. record { after = r .after; taken = e i; records = sym (append-assoc a b (r .records)) i; why = r .why }
 
-  joined-andThen : (es : List Event) (a : Run St) (ys : List ℤ) (room : ℕ) → joined 1 es (andThen a ys (room - length es)) ≡ andThen (joined 1 es a) ys room
+  joined-andThen : (es : List Record) (a : Run St) (ys : List ℤ) (room : ℕ) → joined 1 es (andThen a ys (room - length es)) ≡ andThen (joined 1 es a) ys room
   joined-andThen es a ys room = go (a .why ≡ᵇ 0)
     where
-      e : room - length es - length (a .events) ≡ room - length (es ++ a .events)
+      e : room - length es - length (a .records) ≡ room - length (es ++ a .records)
       e = simp length-append (omega arith)
 
       go : (b : Bool) →
-          joined 1 es (if b then joined (a .taken) (a .events) (fedBy M (a .after) ys (room - length es - length (a .events))) else a)
-          ≡ (if b then joined (1 + a .taken) (es ++ a .events) (fedBy M (a .after) ys (room - length (es ++ a .events))) else joined 1 es a)
+          joined 1 es (if b then joined (a .taken) (a .records) (fedBy M (a .after) ys (room - length es - length (a .records))) else a)
+          ≡ (if b then joined (1 + a .taken) (es ++ a .records) (fedBy M (a .after) ys (room - length (es ++ a .records))) else joined 1 es a)
       go false = refl
-      go true = rw e (joined-joined 1 (a .taken) es (a .events) (fedBy M (a .after) ys (room - length (es ++ a .events))))
+      go true = rw e (joined-joined 1 (a .taken) es (a .records) (fedBy M (a .after) ys (room - length (es ++ a .records))))
 
   pub fedBy-append : (xs : List ℤ) (st : St) (ys : List ℤ) (room : ℕ) → fedBy M st (xs ++ ys) room ≡ andThen (fedBy M st xs room) ys room
   unfolding fedBy
@@ -91,5 +91,5 @@ module _ {St : Type 0} (M : Machine St) where
       go false false q ih = record {
         most = omega (arith, ih .most);
         whole = λ e. omega (arith, ih .whole e);
-        fits = omega (arith, ih .fits, length-append (M .dueWith st x) (later .events), ltb-false room (length (M .dueWith st x)) q);
+        fits = omega (arith, ih .fits, length-append (M .dueWith st x) (later .records), ltb-false room (length (M .dueWith st x)) q);
       }

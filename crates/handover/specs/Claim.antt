@@ -11,8 +11,8 @@ use Rattle.numbers.specs.Notation.{_≡ᵇ_, if_then_else_}
 use Rattle.numbers.specs.Answers.{Answered, refusalIn}
 use Rattle.numbers.specs.Answers.Answered.{accepted, refused}
 use Rattle.settings.specs.Settings.{settingsOf, startRefusal}
-use Rattle.reading.specs.Values.{values}
-use Rattle.reading.specs.Records.{recordBytes, events}
+use Rattle.reading.specs.Records.{recordBytes}
+use Rattle.reading.specs.Feed.{records}
 use Rattle.reading.specs.Calls.{Calls}
 use Rattle.reading.specs.Engineer.{Call, Answer, emptyDesk, answers, deskAfter, WellFormed}
 use Rattle.reading.specs.Engineer.Call.{feed, look, save, restoreSave, restoreRefused}
@@ -67,7 +67,7 @@ module _ {L : Type 0} (C : Calls L) where
   -- the logger and the engineer agree over a list of calls: each answer; and after the list the records written so far and those of the recording
   pub record Agree (s : Settings) (l : L) (cs : List Call) : Type 0 where
     pub same-answers : loggerAnswers (freshCaller l) cs ≡ answers s emptyDesk cs
-    pub same-records : callerAfterAll (freshCaller l) cs .written ≡ recordBytes (events s (values s (deskAfter s emptyDesk cs .recording)))
+    pub same-records : callerAfterAll (freshCaller l) cs .written ≡ recordBytes (records s (deskAfter s emptyDesk cs .recording))
 
   -- what start's answer to settings bytes promises
   abbrev pub Kept : List ℕ → Answered L → Type 0

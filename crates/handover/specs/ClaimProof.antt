@@ -14,16 +14,16 @@ use Rattle.numbers.specs.Answers.{refusalIn, Answered}
 use Rattle.numbers.specs.Answers.Answered.{accepted, refused}
 use Rattle.settings.specs.Settings.{settingsRead, ValidSettings}
 use Rattle.settings.specs.SettingsLaws.{read-accepted, read-refused}
-use Rattle.reading.specs.Values.{Samples, valueCount, history, values}
-use Rattle.reading.specs.Records.{recordBytes, events}
+use Rattle.reading.specs.Values.{Samples, valueCount}
+use Rattle.reading.specs.Records.{recordBytes}
 use Rattle.reading.specs.Image.{imageOf}
 use Rattle.reading.specs.Restore.{restoreRefusal}
-use Rattle.reading.specs.Feed.{completed, taken}
+use Rattle.reading.specs.Feed.{dueAfter, records, completed, taken}
 use Rattle.reading.specs.Engineer.{Call, Desk, over, room, emptyDesk, answer, deskWith, answers, deskAfter, WellFormed}
 use Rattle.reading.specs.Engineer.Call.{feed, look, save, restoreSave, restoreRefused}
 use Rattle.reading.specs.Engineer.Answer.{fed, looked, saved, restored}
 use Rattle.reading.specs.Layout.{recordLength, imageLength}
-use Rattle.reading_laws.specs.CompletedLaws.{events-completed}
+use Rattle.reading_laws.specs.CompletedLaws.{records-completed}
 use Rattle.records.specs.DueLaws.{length-recordBytes, recordBytes-append}
 use Rattle.greedy.specs.GreedyFollows.{Recording, fedBy-follows, recording-fed}
 use Rattle.state.specs.declared.State.{State}
@@ -71,7 +71,7 @@ module _ (s : Settings) (valid : ValidSettings s) where
 
   -- the records of a recording
   abbrev recordsOf : List ℤ → List ℕ
-  recordsOf rec = recordBytes (events s (values s rec))
+  recordsOf rec = recordBytes (records s rec)
 
   -- what the caller keeps, read from what the engineer keeps
   abbrev callerOf : Desk → Caller State
@@ -107,14 +107,14 @@ module _ (s : Settings) (valid : ValidSettings s) where
         let es = completed s rec block n in
         let grown : recordsOf rec ++ take (recordLength * length es) (over (recordBytes es) lent) ≡ recordsOf (rec ++ take n block) =
         ap (λ (bytes : List ℕ). recordsOf rec ++ bytes) (take-over (recordLength * length es) (recordBytes es) lent (length-recordBytes es))
-        ∙ sym (ap recordBytes (events-completed s some rec block n) ∙ recordBytes-append (events s (values s rec)) es) in
+        ∙ sym (ap recordBytes (records-completed s some rec block n) ∙ recordBytes-append (records s rec) es) in
         record {
           same-answer = λ i. fed (outcomeOf lent (F i) .told) (outcomeOf lent (F i) .bytes);
           same-kept =
               (λ i. record {
                 logger = F i .after;
                 images = map (imageOf s) copies;
-                written = recordsOf rec ++ take (recordLength * length (F i .events)) (over (recordBytes (F i .events)) lent);
+                written = recordsOf rec ++ take (recordLength * length (F i .records)) (over (recordBytes (F i .records)) lent);
                 writtenAt = map recordsOf copies;
               })
               ∙ (λ i. record { logger = stateOf s (rec ++ take n block); images = map (imageOf s) copies; written = grown i; writtenAt = map recordsOf copies });
@@ -127,7 +127,7 @@ module _ (s : Settings) (valid : ValidSettings s) where
     image-first : (lent : List ℕ) → take imageLength (over (imageBytes (stateOf s rec)) lent) ≡ imageOf s rec
     image-first lent =
         let v = stateOf-valid s rec valid (ok .recording-ok) in
-        take-over imageLength (imageBytes (stateOf s rec)) lent (length-imageBytes (stateOf s rec) (v .window-valid .size)) ∙ image-of-state s rec
+        take-over imageLength (imageBytes (stateOf s rec)) lent (length-imageBytes (stateOf s rec) (v .window-valid .size) (v .marks-valid .size)) ∙ image-of-state s rec
 
     save-step : (lent : List ℕ) → CallAgrees d (save lent)
     unfolding saveAnswer savedBytes
@@ -228,7 +228,7 @@ module _ (s : Settings) (valid : ValidSettings s) where
       λ i. record {
         logger = fresh-is s some i;
         images = [];
-        written = recordBytes (events s (history s [] (sym none i)));
+        written = recordBytes (dueAfter s [] 0 (sym none i));
         writtenAt = [];
       }
 

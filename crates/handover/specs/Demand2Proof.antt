@@ -42,7 +42,7 @@ saved-back : (st : State) → ValidState st → (old : State) (lent : List ℕ) 
 saved-back st valid old lent long =
     let first : take imageLength (loggerCalls .save st lent .bytes) ≡ imageBytes st =
     ap (λ (s : Saved). take imageLength (s .bytes)) (save-long st lent long)
-    ∙ take-over imageLength (imageBytes st) lent (length-imageBytes st (valid .window-valid .size)) in
+    ∙ take-over imageLength (imageBytes st) lent (length-imageBytes st (valid .window-valid .size) (valid .marks-valid .size)) in
     ap (loggerCalls .restore old) first ∙ restoredBy-saved st valid old
 
 module _ (old : State) (b : List ℕ) (are : Bytes b) (yes : loggerCalls .restore old b .answer ≡ accepted tt) where
@@ -64,7 +64,7 @@ module _ (st : State) (block : List ℤ) (lent : List ℕ) where
       let run = fedBy-greatest machine block st (room lent) in
       let test = allowedBy machine st block (room lent) in
       let is = sym (run .taken-is) in
-      let events-are = run .events-are ∙ (λ i. dueOver machine st (take (is i) block)) in
+      let records-are = run .records-are ∙ (λ i. dueOver machine st (take (is i) block)) in
       record {
         taken-greatest = record {
           holds = (
@@ -74,8 +74,8 @@ module _ (st : State) (block : List ℤ) (lent : List ℕ) where
           most = λ n h. omega (arith, run .taken-is, greatestTo-most test (length block) n (h .0) (h .1));
         };
         why-is = run .why-is ∙ ap (whyBy machine st block) is;
-        written-is = ap length events-are;
-        bytes-are = ap (λ es. over (recordBytes es) lent) events-are;
+        written-is = ap length records-are;
+        bytes-are = ap (λ es. over (recordBytes es) lent) records-are;
         after-is = run .after-is ∙ (λ i. walkedBy machine st (take (is i) block));
       }
 

@@ -46,7 +46,7 @@ module _ {st₀ : State} {b lent out : List ℕ} {st : State} {at written : ℕ}
       let t : at ≡ at + 0 = omega arith in
       let w : written ≡ written + 0 = omega arith in
       (λ i. fedTo st (record { taken = t i; written = w i; why = 0 }) out)
-      ∙ progress-last (inv .so-far) (record { after = st; taken = 0; events = []; why = 0 }) out
+      ∙ progress-last (inv .so-far) (record { after = st; taken = 0; records = []; why = 0 }) out
       (ap (λ (xs : List ℤ). fedBy machine st xs (room lent - written)) none) (sym (take-append-drop (recordLength * written) out))
 
   -- a chunk of k samples, decoded into the front of `places` and fed

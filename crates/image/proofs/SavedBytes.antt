@@ -43,17 +43,17 @@ module _ (lent : List ℕ) where
     unfolding saveAnswer savedBytes
     short-saved h = rw (lt-ltb (length lent) imageLength h) (refl, refl)
 
-    pub long-saved : imageLength ≤ length lent → length (st .window) ≡ 120 → (y₀ y₁ y₂ y₃ y₄ : List ℕ)
+    pub long-saved : imageLength ≤ length lent → length (st .window) ≡ 120 → length (st .marks) ≡ 120 → (y₀ y₁ y₂ y₃ y₄ : List ℕ)
         → y₀ ≡ table → y₁ ≡ settingsBytes (st .settings) → y₂ ≡ gathererBody st
         → y₃ ≡ valuesBody st → y₄ ≡ eventsBody st
         → (0 ≡ saveAnswer lent)
         × (allPut y₀ y₁ y₂ y₃ y₄ ≡ savedBytes st lent)
     unfolding saveAnswer savedBytes imageBytes
-    long-saved h size y₀ y₁ y₂ y₃ y₄ e₀ e₁ e₂ e₃ e₄ =
-        let values-size = ap length e₃ ∙ values-long st size in
+    long-saved h size marks-size y₀ y₁ y₂ y₃ y₄ e₀ e₁ e₂ e₃ e₄ =
+        let values-size = ap length e₃ ∙ values-long st size marks-size in
         rw (le-ltb (length lent) imageLength h) (
           refl,
           five-parts y₀ y₁ y₂ y₃ y₄ (ap length e₀) (ap length e₁ ∙ length-settingsBytes (st .settings)) (ap length e₂) values-size
               ∙ (λ i. (e₀ i ++ (e₁ i ++ (e₂ i ++ (e₃ i ++ e₄ i)))) ++ drop imageLength lent)
-              ∙ ap (λ (n : ℕ). imageBytes st ++ drop n lent) (sym (length-imageBytes st size)),
+              ∙ ap (λ (n : ℕ). imageBytes st ++ drop n lent) (sym (length-imageBytes st size marks-size)),
         )

@@ -2,8 +2,8 @@
 use mathlib.Core.Path.{_≡_, refl, sym, _∙_, ap}
 use mathlib.Core.Bool.{Bool, true, false}
 use mathlib.Core.List.{List}
-use Prim.Native.Nat.{ℕ, zero, suc}
-use lib.ListN.{length, drop, getD}
+use Prim.Native.Nat.{ℕ, zero, suc, _+_}
+use lib.ListN.{length, take, drop, getD}
 use lib.Dec.{eqb·suc-zero}
 use borrow.Author.Tests.{eq-eqb, ne-eqb}
 use Rattle.numbers.specs.Notation.{_≡ᵇ_, flag, refuse_unless_then_}
@@ -14,7 +14,7 @@ use Rattle.numbers.specs.Rules.{Rule, passes}
 use Rattle.numbers.specs.RulesLaws.{holds}
 use Rattle.settings.specs.declared.Settings.{Settings}
 use Rattle.settings.specs.Settings.{windowLength, settingsOf, startRefusal, settingsRead}
-use Rattle.reading.specs.Layout.{tableLength, gathererLength, eventsLength, imageLength, gathererOffset, eventsOffset}
+use Rattle.reading.specs.Layout.{places, tableLength, gathererLength, eventsLength, imageLength, gathererOffset, eventsOffset}
 use Rattle.reading.specs.Image.{table}
 use Rattle.reading.specs.Restore.{part, sameBytes, gathererRule, valuesRule, eventsRule, settingsPart, gathererIn, valuesIn, eventsIn, restoreRefusal}
 use Rattle.reading.specs.Calls.{Restoration}
@@ -27,7 +27,7 @@ use Rattle.image.specs.Image.{stateAt, refusedBy, restoredFrom, restored
 
 module _ (old : State) (b : List ℕ) where
   abbrev pub by-detector : Settings → Gatherer → Answered Detector → Restoration State
-  by-detector s g (accepted d) = record { after = stateWith s g d (drop 1 (valuesIn b)); answer = accepted tt }
+  by-detector s g (accepted d) = record { after = stateWith s g d (take places (drop 1 (valuesIn b))) (drop (1 + places) (valuesIn b)); answer = accepted tt }
   by-detector s g (refused n) = refusedBy n old
 
   abbrev pub by-window : Settings → Gatherer → ℕ → Restoration State

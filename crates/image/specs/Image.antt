@@ -1,13 +1,13 @@
 -- What save writes of a state, what restore reads from bytes, and the answers of both.
 use mathlib.Core.List.{List, _∷_, _++_}
-use Prim.Native.Nat.{ℕ, zero, suc}
-use lib.ListN.{drop, getD}
+use Prim.Native.Nat.{ℕ, zero, suc, _+_}
+use lib.ListN.{take, drop, getD}
 use Rattle.octets.specs.Bytes.{row}
 use Rattle.numbers.specs.Notation.{if_then_else_}
 use Rattle.numbers.specs.Answers.{Answered}
 use Rattle.numbers.specs.Answers.Answered.{accepted, refused}
 use Rattle.settings.specs.Settings.{settingsBytes, settingsOf}
-use Rattle.reading.specs.Layout.{gathererWidths, valuesWidths, eventsWidths}
+use Rattle.reading.specs.Layout.{places, gathererWidths, valuesWidths, eventsWidths}
 use Rattle.reading.specs.Image.{table}
 use Rattle.reading.specs.Restore.{settingsPart, gathererIn, valuesIn, eventsIn, restoreRefusal}
 use Rattle.reading.specs.Calls.{Restoration}
@@ -24,7 +24,7 @@ abbrev pub gathererBody : State → List ℕ
 gathererBody st = row gathererWidths (gathererRow (st .gatherer))
 
 abbrev pub valuesBody : State → List ℕ
-valuesBody st = row valuesWidths (st .detector .count ∷ st .window)
+valuesBody st = row valuesWidths (st .detector .count ∷ (st .window ++ st .marks))
 
 abbrev pub eventsBody : State → List ℕ
 eventsBody st = row eventsWidths (detectorRow (st .detector))
@@ -33,7 +33,10 @@ unfoldable pub imageBytes : State → List ℕ
 imageBytes st = table ++ (settingsBytes (st .settings) ++ (gathererBody st ++ (valuesBody st ++ eventsBody st)))
 
 unfoldable pub stateAt : List ℕ → State
-stateAt b = stateWith (settingsOf (settingsPart b)) (gathererFrom (gathererIn b)) (detectorFrom (getD (valuesIn b) 0 0) (eventsIn b)) (drop 1 (valuesIn b))
+stateAt b =
+    let values = valuesIn b in
+    stateWith (settingsOf (settingsPart b)) (gathererFrom (gathererIn b)) (detectorFrom (getD values 0 0) (eventsIn b))
+    (take places (drop 1 values)) (drop (1 + places) values)
 
 -- save: 7 for a shorter buffer, which stays; else the image, and the rest as it was
 unfoldable pub saveAnswer : List ℕ → ℕ

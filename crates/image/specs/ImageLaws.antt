@@ -1,13 +1,14 @@
 -- Both round trips: an allowed state's image is accepted and read back as that state; accepted bytes are the image of what is read from them, which is allowed.
 use mathlib.Core.Path.{_≡_, refl, sym, _∙_, ap, subst}
-use mathlib.Core.List.{List, _∷_}
+use mathlib.Core.List.{List, _∷_, _++_}
 use Prim.Native.Nat.{ℕ, zero, suc, _+_, _≤_}
 use native.Mathlib.Omega.{arith}
-use lib.ListN.{length, drop, getD, length-append, length-take, length-drop}
+use lib.ListN.{length, take, drop, getD, length-append, length-take, length-drop}
+use lib.Seq.{take-at, drop-at}
 use borrow.Author.Tests.{eqb-true, eq-eqb}
 use Rattle.octets.specs.Bytes.{Bytes, row, numbersIn, total}
 use Rattle.octets.specs.BytesLaws.{bytes-take, bytes-drop}
-use Rattle.octets.specs.RowLaws.{length-row, length-numbersIn, numbersIn-row, row-numbersIn, numbersIn-fit}
+use Rattle.octets.specs.RowLaws.{length-row, numbersIn-row, row-numbersIn, numbersIn-fit}
 use Rattle.numbers.specs.Notation.{_≡ᵇ_, flag}
 use Rattle.numbers.specs.NotationLaws.{refuse-passes, refuse-none}
 use Rattle.numbers.specs.Answers.{answered}
@@ -17,7 +18,7 @@ use Rattle.numbers.specs.RulesLaws.{holds, passed}
 use Rattle.settings.specs.declared.Settings.{Settings}
 use Rattle.settings.specs.Settings.{windowLength, settingsLength, settingsBytes, settingsOf, startRefusal, settingsRead}
 use Rattle.settings.specs.SettingsLaws.{windowLength-most, settingsOf-settingsBytes, settingsRead-settingsBytes, read-accepted, settingsBytes-settingsRead}
-use Rattle.reading.specs.Layout.{tableLength, gathererWidths, valuesWidths, valuesLength, eventsWidths, eventsLength, imageLength}
+use Rattle.reading.specs.Layout.{tableLength, places, gathererWidths, valuesWidths, valuesLength, eventsWidths, eventsLength, imageLength}
 use Rattle.reading.specs.Layout.{settingsOffset, gathererOffset, valuesOffset, eventsOffset}
 use Rattle.reading.specs.Image.{table}
 use Rattle.reading.specs.Restore.{part, sameBytes, gathererRule, wholeRule, valuesRule, eventsRule, settingsPart, gathererIn, valuesIn, eventsIn, restoreRefusal}
@@ -35,9 +36,9 @@ abbrev SectionsOf : State → List ℕ → Type 0
 SectionsOf st b = Sections b table (settingsBytes (st .settings)) (gathererBody st) (valuesBody st) (eventsBody st)
 
 -- the sections of an image, and their lengths
-module _ (st : State) (size : length (st .window) ≡ 120) where
+module _ (st : State) (size : length (st .window) ≡ 120) (marks-size : length (st .marks) ≡ 120) where
   pub values-long : length (valuesBody st) ≡ valuesLength
-  values-long = length-row valuesWidths (st .detector .count ∷ st .window) (ap suc size)
+  values-long = length-row valuesWidths (st .detector .count ∷ (st .window ++ st .marks)) (ap suc (length-append (st .window) (st .marks) ∙ omega arith))
 
   events-long : length (eventsBody st) ≡ eventsLength
   events-long = length-row eventsWidths (detectorRow (st .detector)) (length-detectorRow (st .detector))
@@ -71,7 +72,7 @@ module _ (st : State) (valid : ValidState st) where
   v = st .detector .count
 
   sections : SectionsOf st saved
-  sections = image-sections st (valid .window-valid .size)
+  sections = image-sections st (valid .window-valid .size) (valid .marks-valid .size)
 
   settings-are : settingsOf (settingsPart saved) ≡ st .settings
   settings-are = ap settingsOf (sections .settings-part) ∙ settingsOf-settingsBytes (st .settings) (valid .settings-valid)
@@ -79,10 +80,23 @@ module _ (st : State) (valid : ValidState st) where
   gatherer-is : gathererIn saved ≡ gathererRow (st .gatherer)
   gatherer-is =
       ap (numbersIn gathererWidths) (sections .gatherer-part)
-      ∙ numbersIn-row gathererWidths (gathererRow (st .gatherer)) (gatherer-fits (st .settings .samples) (st .gatherer) (valid .settings-valid .samples-valid .1) (valid .gatherer-valid))
+      ∙ numbersIn-row gathererWidths (gathererRow (st .gatherer))
+      (gatherer-fits (st .settings .samples) (st .gatherer) (valid .settings-valid .samples-valid .1) (valid .gatherer-valid))
 
-  values-are : valuesIn saved ≡ v ∷ st .window
-  values-are = ap (numbersIn valuesWidths) (sections .values-part) ∙ numbersIn-row valuesWidths (v ∷ st .window) (values-fit n v (st .window) (valid .count-le) (valid .window-valid))
+  values-are : valuesIn saved ≡ v ∷ (st .window ++ st .marks)
+  values-are =
+      ap (numbersIn valuesWidths) (sections .values-part)
+      ∙ numbersIn-row valuesWidths (v ∷ (st .window ++ st .marks))
+      (values-fit n v (st .window) (st .marks) (valid .count-le) (valid .window-valid) (valid .marks-valid))
+
+  window-is : take places (st .window ++ st .marks) ≡ st .window
+  window-is = take-at (st .window) (st .marks) places (valid .window-valid .size)
+
+  marks-are : drop places (st .window ++ st .marks) ≡ st .marks
+  marks-are = drop-at (st .window) (st .marks) places (valid .window-valid .size)
+
+  values-allowed : Holds (valuesRule n (flag (st .gatherer .whole)) (v ∷ (st .window ++ st .marks)))
+  values-allowed = rw (window-is, marks-are) (valid .none-whole, (valid .window-valid .allowed, valid .marks-valid .allowed))
 
   events-are : eventsIn saved ≡ detectorRow (st .detector)
   events-are =
@@ -97,14 +111,14 @@ module _ (st : State) (valid : ValidState st) where
   pub imageBytes-accepted : restoreRefusal (imageBytes st) ≡ 0
   unfolding restoreRefusal
   imageBytes-accepted =
-      refuse-passes 8 _ (eq-eqb (length saved) imageLength (length-imageBytes st (valid .window-valid .size)))
+      refuse-passes 8 _ (eq-eqb (length saved) imageLength (length-imageBytes st (valid .window-valid .size) (valid .marks-valid .size)))
       ∙ refuse-passes 9 _ (ap (λ (l : List ℕ). sameBytes l table) (sections .contents-part))
       ∙ refuse-passes 10 _ (eq-eqb (startRefusal (settingsPart saved)) 0 start-none)
       ∙ refuse-passes 11 _
       ((λ i. passes (gathererRule (settings-are i .samples) (gatherer-is i))) ∙ passed (gathererRule (st .settings .samples) (gathererRow (st .gatherer))) (valid .gatherer-valid))
       ∙ refuse-passes 11 _
       ((λ i. passes (valuesRule (windowLength (settings-are i)) (getD (gatherer-is i) 3 0) (values-are i)))
-      ∙ passed (valuesRule n (flag (st .gatherer .whole)) (v ∷ st .window)) (valid .none-whole, valid .window-valid .allowed))
+      ∙ passed (valuesRule n (flag (st .gatherer .whole)) (v ∷ (st .window ++ st .marks))) values-allowed)
       ∙ refuse-passes 11 _
       ((λ i. passes (eventsRule (windowLength (settings-are i)) (getD (values-are i) 0 0) (events-are i)))
       ∙ passed (eventsRule n v (detectorRow (st .detector))) (detector-allowed (st .detector) n (valid .detector-valid)))
@@ -112,8 +126,9 @@ module _ (st : State) (valid : ValidState st) where
   pub stateAt-imageBytes : stateAt (imageBytes st) ≡ st
   unfolding stateAt
   stateAt-imageBytes =
-      (λ i. stateWith (settings-are i) (gathererFrom (gatherer-is i)) (detectorFrom (getD (values-are i) 0 0) (events-are i)) (drop 1 (values-are i)))
-      ∙ (λ i. stateWith (st .settings) (gatherer-back (st .gatherer) i) (detector-back (st .detector) i) (st .window))
+      (λ i. stateWith (settings-are i) (gathererFrom (gatherer-is i)) (detectorFrom (getD (values-are i) 0 0) (events-are i))
+      (take places (drop 1 (values-are i))) (drop (1 + places) (values-are i)))
+      ∙ (λ i. stateWith (st .settings) (gatherer-back (st .gatherer) i) (detector-back (st .detector) i) (window-is i) (marks-are i))
 
   pub restoredBy-saved : (old : State) → restoredBy old (imageBytes st) ≡ record { after = st; answer = accepted tt }
   unfolding restoredBy
@@ -169,12 +184,12 @@ module _ (b : List ℕ) (are : Bytes b) (accepted-b : restoreRefusal b ≡ 0) wh
   unfolding settingsRead
   settings-read = ap (λ (n : ℕ). answered n s) (ok .start)
 
-  -- the mark is 0 or 1
+  -- each mark is 0 or 1
   gatherer-row : gathererRow (gathererFrom (gathererIn b)) ≡ gathererIn b
-  gatherer-row = gatherer-again _ _ _ _ (ok .gatherer .1 .1 .1 .0)
+  gatherer-row = let rest = ok .gatherer .1 .1 .1 in gatherer-again _ _ _ _ _ _ (rest .0) (rest .1 .1 .0 .0) (rest .1 .1 .1 .0)
 
   detector-row : Again (windowLength s) (getD (valuesIn b) 0 0) (eventsIn b)
-  detector-row = detector-again _ _ _ _ _ _ _ (ok .events)
+  detector-row = detector-again (windowLength s) _ (part eventsOffset eventsLength b) (ok .events)
 
   pub stateAt-valid : ValidState (stateAt b)
   unfolding stateAt
@@ -182,7 +197,8 @@ module _ (b : List ℕ) (are : Bytes b) (accepted-b : restoreRefusal b ≡ 0) wh
     settings-valid = read-accepted (settingsPart b) s settings-read .valid;
     gatherer-valid = subst (λ (ns : List ℕ). Holds (gathererRule (s .samples) ns)) (sym gatherer-row) (ok .gatherer);
     detector-valid = detector-row .valid;
-    window-valid = record { size = length-numbersIn (drop 1 valuesWidths) (drop 4 (part valuesOffset valuesLength b)); allowed = ok .values .1 };
+    window-valid = record { size = refl; allowed = ok .values .1 .0 };
+    marks-valid = record { size = refl; allowed = ok .values .1 .1 };
     count-le = let h = numbersIn-fit valuesWidths (part valuesOffset valuesLength b) (part-bytes valuesOffset valuesLength) .0 in omega arith;
     none-whole = subst (λ (ns : List ℕ). Holds (wholeRule (getD ns 3 0) (getD (valuesIn b) 0 0))) (sym gatherer-row) (ok .values .0);
   }

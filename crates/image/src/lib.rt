@@ -55,6 +55,7 @@ pub fn save(state: State, image: &mut [u8]) -> u32
         &mut image[VALUES_AT..EVENTS_AT],
         detector.count,
         &state.window,
+        &state.marks,
     );
     bodies::put_detector(&mut image[EVENTS_AT..IMAGE_LENGTH], detector);
     0
@@ -92,6 +93,7 @@ pub fn restore(old: State, bytes: &[u8]) -> Restored
     let verdict = read.verdict;
     let count = read.count;
     let window = read.window;
+    let marks = read.marks;
     let Verdict::Good = verdict else {
         return refused(old, 11);
     };
@@ -109,6 +111,7 @@ pub fn restore(old: State, bytes: &[u8]) -> Restored
             gatherer,
             detector,
             window,
+            marks,
         },
     }
 }

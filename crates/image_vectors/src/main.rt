@@ -30,6 +30,7 @@ fn blank() -> State {
         gatherer: Gatherer::new(),
         detector: Detector::new(),
         window: [0u32; 120],
+        marks: [0u8; 120],
     }
 }
 

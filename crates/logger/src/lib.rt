@@ -65,7 +65,16 @@ impl Logger {
         let gatherer = self.state.gatherer;
         let detector = self.state.detector;
         let mut window = self.state.window;
-        let walked = feed::walk(settings, gatherer, detector, &mut window, block, records);
+        let mut marks = self.state.marks;
+        let walked = feed::walk(
+            settings,
+            gatherer,
+            detector,
+            &mut window,
+            &mut marks,
+            block,
+            records,
+        );
         let gathered = walked.gatherer;
         let detected = walked.detector;
         let told = walked.told;
@@ -76,6 +85,7 @@ impl Logger {
                     gatherer: gathered,
                     detector: detected,
                     window,
+                    marks,
                 },
             },
             told,

@@ -42,3 +42,7 @@ Narrow (w ∷ ws) = (w ≤ 8) × Narrow ws
 -- as many widths of 4 bytes as there are numbers
 abbrev pub fours : List ℕ → List ℕ
 fours ns = replicate (length ns) 4
+
+-- and of one byte
+abbrev pub ones : List ℕ → List ℕ
+ones ns = replicate (length ns) 1

@@ -1,11 +1,12 @@
 -- The laws of rows, over the widths: numbers to bytes and back, both ways; and how a row goes on.
 use mathlib.Core.Path.{_≡_, refl, sym, _∙_, ap, ap₂}
-use mathlib.Core.List.{List, [], _∷_, _++_}
-use Prim.Native.Nat.{ℕ, suc, _^_, _<_, _+_}
+use mathlib.Core.List.{List, [], _∷_, _++_, append-assoc}
+use Prim.Native.Nat.{ℕ, suc, _^_, _<_, _+_, _*_}
 use native.Mathlib.Omega.{arith}
+use native.Mathlib.Nat.{mod-eq-of-lt}
 use lib.ListN.{length, take, drop, getD, length-append, length-take, length-drop, take-append-drop}
-use lib.Seq.{take-at, drop-at, length-take-le}
-use Rattle.octets.specs.Bytes.{Bytes, bytesOf, numberOf, row, numbersIn, total, fours}
+use lib.Seq.{take-at, drop-at, drop-drop, length-take-le}
+use Rattle.octets.specs.Bytes.{Bytes, bytesOf, numberOf, row, numbersIn, total, fours, ones}
 use Rattle.octets.specs.BytesLaws.{bytes-take, bytes-drop, length-bytesOf, numberOf-bytesOf, bytesOf-numberOf, numberOf-lt}
 
 -- numbers that a row of given widths holds: as many, and each below 256 to the power of its width
@@ -53,3 +54,37 @@ numbersIn-fit (w ∷ ws) b are = (numberOf-lt w (take w b) (bytes-take w b are) 
 pub fits-fours : (ns : List ℕ) → ((i : ℕ) → getD ns i 0 < 256 ^ 4) → Fit (fours ns) ns
 fits-fours [] h = tt
 fits-fours (n ∷ ns) h = (h 0, fits-fours ns (λ i. h (suc i)))
+
+-- two rows, one behind the other
+pub row-append : (ws vs ns ms : List ℕ) → length ns ≡ length ws → row (ws ++ vs) (ns ++ ms) ≡ row ws ns ++ row vs ms
+row-append [] vs [] ms e = refl
+row-append [] vs (n ∷ ns) ms e = absurd (omega arith)
+row-append (w ∷ ws) vs [] ms e = absurd (omega arith)
+row-append (w ∷ ws) vs (n ∷ ns) ms e =
+    ap (λ (r : List ℕ). bytesOf w n ++ r) (row-append ws vs ns ms (omega arith)) ∙ sym (append-assoc (bytesOf w n) (row ws ns) (row vs ms))
+
+pub numbersIn-append : (ws vs b : List ℕ) → numbersIn (ws ++ vs) b ≡ numbersIn ws b ++ numbersIn vs (drop (total ws) b)
+numbersIn-append [] vs b = refl
+numbersIn-append (w ∷ ws) vs b =
+    ap (λ (r : List ℕ). numberOf (take w b) ∷ r)
+    (numbersIn-append ws vs (drop w b)
+    ∙ ap (λ (l : List ℕ). numbersIn ws (drop w b) ++ numbersIn vs l) (drop-drop (total ws) w b))
+
+pub fit-append : (ws vs ns ms : List ℕ) → Fit ws ns → Fit vs ms → Fit (ws ++ vs) (ns ++ ms)
+fit-append [] vs [] ms f g = g
+fit-append [] vs (n ∷ ns) ms f g = absurd f
+fit-append (w ∷ ws) vs [] ms f g = absurd f
+fit-append (w ∷ ws) vs (n ∷ ns) ms f g = (f .0, fit-append ws vs ns ms (f .1) g)
+
+-- numbers of one byte each are the bytes themselves
+pub row-ones : (ns : List ℕ) → Bytes ns → row (ones ns) ns ≡ ns
+row-ones [] are = refl
+row-ones (n ∷ ns) are = ap₂ _∷_ (mod-eq-of-lt (are .0)) (row-ones ns (are .1))
+
+pub numbersIn-ones : (b : List ℕ) → numbersIn (ones b) b ≡ b
+numbersIn-ones [] = refl
+numbersIn-ones (x ∷ b) = let e : x + 256 * 0 ≡ x = omega arith in ap₂ _∷_ e (numbersIn-ones b)
+
+pub fits-ones : (ns : List ℕ) → Bytes ns → Fit (ones ns) ns
+fits-ones [] are = tt
+fits-ones (n ∷ ns) are = (omega (arith, are .0), fits-ones ns (are .1))

@@ -40,6 +40,18 @@ pub fn put_number(part: &mut [u8], x: u64)
     }
 }
 
+// Writes bytes into a part of their length.
+pub fn copy(part: &mut [u8], bytes: &[u8])
+    requires { ⌜ length (now part) ≡ length (now bytes) ⌝ }
+    ensures { λ _. ⌜ now (part .exit) ≡ now (bytes .entry) ⌝ }
+{
+    let mut i = 0;
+    while i < bytes.len() {
+        part[i] = bytes[i];
+        i += 1;
+    }
+}
+
 // Reads a row of numbers, each of at most 8 bytes.
 pub fn get_row(bytes: &[u8], widths: &[u8], numbers: &mut [u64])
     requires { ⌜ (length (now numbers) ≡ length (now widths)) × (length (now bytes) ≡ total (now widths)) × Narrow (now widths) ⌝ }

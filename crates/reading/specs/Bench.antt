@@ -1,31 +1,35 @@
--- 01, "Bench readings", the example of "The event program", and more readings of the same kind: lengths, a whole image, and what restore refuses and accepts.
+-- 01, "Bench readings", the example of "The event program", and more readings of the same kind: marks, lengths, a whole image, and what restore refuses and accepts.
 use mathlib.Core.Path.{_≡_}
-use mathlib.Core.Bool.{true, false}
+use mathlib.Core.Bool.{Bool, true, false}
 use mathlib.Core.List.{List, [], _∷_, _++_, map}
-use Prim.Native.Nat.{ℕ, zero, suc, _+_, _*_, _^_}
-use lib.ListN.{length, take, replicate}
+use Prim.Native.Nat.{ℕ, zero, suc, _+_, _-_, _*_, _^_}
+use lib.ListN.{length, take, drop, getD, replicate}
 use lib.Seq.{sets}
 use lib.IntN.{ℤ, pos, negsuc}
 use Rattle.octets.specs.Bytes.{bytesOf}
 use Rattle.settings.specs.declared.Settings.{Settings}
 use Rattle.settings.specs.Settings.{settingsLength, settingsRefusal}
 use Rattle.reading.specs.declared.Event.{Event}
+use Rattle.reading.specs.declared.Record.{Record}
 use Rattle.reading.specs.Values.{values}
 use Rattle.reading.specs.Layout.{recordLength, gathererLength, valuesLength, eventsLength, imageLength, replyLength}
 use Rattle.reading.specs.Layout.{settingsOffset, gathererOffset, valuesOffset, eventsOffset}
-use Rattle.reading.specs.Records.{events, recordBytes}
-use Rattle.reading.specs.Image.{imageOf}
-use Rattle.reading.specs.Restore.{restoreRefusal}
+use Rattle.reading.specs.Records.{events, recordBytes, recordsAt}
+use Rattle.reading.specs.Clipping.{marks}
+use Rattle.reading.specs.Changes.{signal}
+use Rattle.reading.specs.Image.{changeMark, imageOf}
+use Rattle.reading.specs.Restore.{gathererIn, valuesIn, eventsIn, restoreRefusal}
+use Rattle.reading.specs.Feed.{records}
 use Rattle.reading.specs.Engineer.{readings, emptyDesk, answer}
 use Rattle.reading.specs.Engineer.Call.{feed}
 use Rattle.reading.specs.Engineer.Answer.{fed}
 
--- 01's settings Q, with an M, a T and an H
-abbrev pub qWith : ℕ → ℕ → ℕ → Settings
-qWith m t h = record {
+-- 01's settings Q, with an M, a U, a T and an H
+abbrev pub qOf : ℕ → ℕ → ℕ → ℕ → Settings
+qOf m u t h = record {
   samples = m;
   frequency = 50;
-  declared = 1600;
+  declared = u;
   limit = t;
   reduction = h;
   interruption = 500;
@@ -34,8 +38,15 @@ qWith m t h = record {
   hysteresis = 200;
 }
 
+abbrev pub qWith : ℕ → ℕ → ℕ → Settings
+qWith m t h = qOf m 1600 t h
+
 abbrev pub q : Settings
 q = qWith 8 300 150
+
+-- with another U
+abbrev pub qLoud : ℕ → Settings
+qLoud u = qOf 8 u 300 150
 
 -- n samples x
 abbrev pub repeated : ℕ → ℕ → List ℤ
@@ -65,19 +76,50 @@ pairThen x y = repeated 16 x ++ repeated 16 y
 abbrev pub unsettled : List ℤ
 unsettled = repeated (30 * 8) 80 ++ (repeated (51 * 8) 94 ++ repeated (52 * 8) 98)
 
+-- a recording with another first sample in half-cycle h
+abbrev pub withFirst : ℕ → ℤ → List ℤ → List ℤ
+withFirst h x rec = sets rec ((h - 1) * 8) (x ∷ [])
+
+-- three half-cycles of 25000, two of 15000, three of 25000, and another sample in the first of 15000
+abbrev pub loudDip : List ℤ
+loudDip = repeated 24 25000 ++ (repeated 16 15000 ++ repeated 24 25000)
+
+abbrev pub flatTop : ℤ → List ℤ
+flatTop x = withFirst 4 x loudDip
+
+-- three half-cycles of 22000, two of 29000, three of 22000: a swell between two dips
+abbrev pub loudSwell : List ℤ
+loudSwell = repeated 24 22000 ++ (repeated 16 29000 ++ repeated 24 22000)
+
+-- three half-cycles of 25000, three of 0, three of 25000: an interruption in a dip
+abbrev pub loudOutage : List ℤ
+loudOutage = repeated 24 25000 ++ (repeated 24 0 ++ repeated 24 25000)
+
+-- the first five half-cycles of that swell, the fifth one clipped
+abbrev pub swellSoFar : List ℤ
+swellSoFar = take 40 (withFirst 5 (pos 32767) loudSwell)
+
+-- the first six half-cycles of the clipped dip, then three samples of 25000 and one that is clipped
+abbrev pub flatSoFar : List ℤ
+flatSoFar = take 48 (flatTop (pos 32767)) ++ (repeated 3 25000 ++ (pos 32767 ∷ []))
+
+-- 150 half-cycles of 32766, then 103 of 31455, and half-cycle h clipped: a change due at value 252, with values 151 and 152 in its first magnitude
+abbrev pub loudChange : ℕ → List ℤ
+loudChange h = withFirst h (pos 32767) (repeated (150 * 8) 32766 ++ repeated (103 * 8) 31455)
+
 -- 150 half-cycles of 100, two of 80 and three samples more: a change in progress since value 150, and a dip since 151
 abbrev pub changing : List ℤ
 changing = repeated (150 * 8) 100 ++ repeated 19 80
 
--- its image, byte by byte: the table; the settings; the gatherer; V and the window; the phase, the change and the three events
+-- its image, byte by byte: the table; the settings; the gatherer; V, the window and its marks; the phase, the change, the three events and the marks
 abbrev pub changingImage : List ℕ
 changingImage =
-    1 ∷ 0 ∷ 0 ∷ 0 ∷ 32 ∷ 0 ∷ 36 ∷ 0 ∷ 2 ∷ 0 ∷ 0 ∷ 0 ∷ 68 ∷ 0 ∷ 24 ∷ 0 ∷ 3 ∷ 0 ∷ 0 ∷ 0 ∷ 92 ∷ 0 ∷ 228 ∷ 1 ∷ 4 ∷ 0 ∷ 0 ∷ 0 ∷ 64 ∷ 2 ∷ 44 ∷ 0
+    1 ∷ 0 ∷ 0 ∷ 0 ∷ 32 ∷ 0 ∷ 36 ∷ 0 ∷ 2 ∷ 0 ∷ 0 ∷ 0 ∷ 68 ∷ 0 ∷ 32 ∷ 0 ∷ 3 ∷ 0 ∷ 0 ∷ 0 ∷ 100 ∷ 0 ∷ 92 ∷ 2 ∷ 4 ∷ 0 ∷ 0 ∷ 0 ∷ 192 ∷ 2 ∷ 60 ∷ 0
     ∷ 8 ∷ 0 ∷ 0 ∷ 0 ∷ 50 ∷ 0 ∷ 0 ∷ 0 ∷ 64 ∷ 6 ∷ 0 ∷ 0 ∷ 44 ∷ 1 ∷ 0 ∷ 0 ∷ 150 ∷ 0 ∷ 0 ∷ 0 ∷ 244 ∷ 1 ∷ 0 ∷ 0 ∷ 40 ∷ 35 ∷ 0 ∷ 0 ∷ 248 ∷ 42 ∷ 0 ∷ 0 ∷ 200 ∷ 0 ∷ 0 ∷ 0
-    ∷ 3 ∷ 0 ∷ 0 ∷ 0 ∷ 0 ∷ 75 ∷ 0 ∷ 0 ∷ 0 ∷ 0 ∷ 0 ∷ 0 ∷ 0 ∷ 200 ∷ 0 ∷ 0 ∷ 0 ∷ 0 ∷ 0 ∷ 0 ∷ 1 ∷ 0 ∷ 0 ∷ 0
-    ∷ 151 ∷ 0 ∷ 0 ∷ 0 ∷ (times 98 (64 ∷ 6 ∷ 0 ∷ 0 ∷ []) ++ (168 ∷ 5 ∷ 0 ∷ 0 ∷ 0 ∷ 5 ∷ 0 ∷ 0 ∷ (replicate 80 0
+    ∷ 3 ∷ 0 ∷ 0 ∷ 0 ∷ 0 ∷ 75 ∷ 0 ∷ 0 ∷ 0 ∷ 0 ∷ 0 ∷ 0 ∷ 0 ∷ 200 ∷ 0 ∷ 0 ∷ 0 ∷ 0 ∷ 0 ∷ 0 ∷ 1 ∷ 0 ∷ 0 ∷ 0 ∷ 0 ∷ 0 ∷ 0 ∷ 0 ∷ 0 ∷ 0 ∷ 0 ∷ 0
+    ∷ 151 ∷ 0 ∷ 0 ∷ 0 ∷ (times 98 (64 ∷ 6 ∷ 0 ∷ 0 ∷ []) ++ (168 ∷ 5 ∷ 0 ∷ 0 ∷ 0 ∷ 5 ∷ 0 ∷ 0 ∷ (replicate 200 0
     ++ (3 ∷ 0 ∷ 0 ∷ 0 ∷ 150 ∷ 0 ∷ 0 ∷ 0 ∷ 0 ∷ 113 ∷ 2 ∷ 0 ∷ 0 ∷ 0 ∷ 0 ∷ 0 ∷ 151 ∷ 0 ∷ 0 ∷ 0
-    ∷ 151 ∷ 0 ∷ 0 ∷ 0 ∷ 0 ∷ 5 ∷ 0 ∷ 0 ∷ replicate 16 0))))
+    ∷ 151 ∷ 0 ∷ 0 ∷ 0 ∷ 0 ∷ 5 ∷ 0 ∷ 0 ∷ replicate 32 0))))
 
 -- that image with a number of w bytes at an offset
 abbrev pub changed : ℕ → ℕ → ℕ → List ℕ
@@ -101,24 +143,78 @@ settingsIn =
     changed 32 4 8 ∷ changed 32 4 256 ∷ changed 36 4 60 ∷ changed 40 4 16 ∷ changed 40 4 524288 ∷ withoutH 50 ∷ changed 44 4 600 ∷ changed 48 4 299
     ∷ changed 52 4 1 ∷ changed 60 4 20000 ∷ changed 52 4 8800 ∷ changed 60 4 9401 ∷ []
 
--- the bodies: count, sum, last sum, mark, mark 0 with a last sum, mark 0 with V; a value, an unused place; phase 4, phase 0 with V ≥ N, a change outside phase 3; k at N, k above V,
--- A(k − 1), a difference with V < k + N, a stand before k, one after V; a start above V, a magnitude, a magnitude of none
+-- the bodies: count, sum, last sum; 2 for whether there is a whole half-cycle, none with a last sum, none with V; a value, an unused place; phase 4, phase 0 with V ≥ N, a change
+-- outside phase 3; k at N, k above V, A(k − 1), a difference with V < k + N, a stand before k, one after V; a start above V, a magnitude, a magnitude of none
 abbrev pub bodiesOut : List (List ℕ)
 bodiesOut =
     changed 68 4 8 ∷ changed 72 8 (3 * 2 ^ 30 + 1) ∷ changed 80 8 (8 * 2 ^ 30 + 1) ∷ changed 88 4 2 ∷ changed 88 4 0 ∷ sets (changed 80 8 0) 88 (bytesOf 4 0)
-    ∷ changed 96 4 524289 ∷ changed 496 4 1
-    ∷ changed 576 4 4 ∷ changed 576 4 0 ∷ changed 576 4 2 ∷ changed 580 4 100 ∷ changed 580 4 152 ∷ changed 584 4 52428801 ∷ changed 588 4 1 ∷ changed 592 4 149 ∷ changed 592 4 152
-    ∷ changed 596 4 152 ∷ changed 600 4 524289 ∷ changed 608 4 1 ∷ []
+    ∷ changed 104 4 524289 ∷ changed 504 4 1
+    ∷ changed 704 4 4 ∷ changed 704 4 0 ∷ changed 704 4 2 ∷ changed 708 4 100 ∷ changed 708 4 152 ∷ changed 712 4 52428801 ∷ changed 716 4 1 ∷ changed 720 4 149 ∷ changed 720 4 152
+    ∷ changed 724 4 152 ∷ changed 728 4 524289 ∷ changed 736 4 1 ∷ []
 
 abbrev pub bodiesIn : List (List ℕ)
 bodiesIn =
     changed 68 4 7 ∷ changed 72 8 (3 * 2 ^ 30) ∷ changed 80 8 (8 * 2 ^ 30) ∷ changed 88 4 1
-    ∷ changed 96 4 524288 ∷ changed 492 4 0
-    ∷ changed 580 4 101 ∷ changed 580 4 151 ∷ changed 584 4 52428800 ∷ changed 588 4 0 ∷ changed 592 4 150 ∷ changed 592 4 0
-    ∷ changed 596 4 150 ∷ changed 600 4 524288 ∷ changed 600 4 0 ∷ []
+    ∷ changed 104 4 524288 ∷ changed 500 4 0
+    ∷ changed 708 4 101 ∷ changed 708 4 151 ∷ changed 712 4 52428800 ∷ changed 716 4 0 ∷ changed 720 4 150 ∷ changed 720 4 0
+    ∷ changed 724 4 150 ∷ changed 728 4 524288 ∷ changed 728 4 0 ∷ []
+
+-- several numbers of 4 bytes, each at its offset
+abbrev pub edited : List ℕ → List (ℕ × ℕ) → List ℕ
+edited b [] = b
+edited b ((offset, x) ∷ more) = sets (edited b more) offset (bytesOf 4 x)
+
+-- that image with no sample in progress; with V and k, and a mark of the change; steady
+abbrev pub withoutCount : ℕ → List ℕ
+withoutCount mark = edited (changed 72 8 0) ((68, 0) ∷ (92, mark) ∷ [])
+
+abbrev pub changedAt : ℕ → ℕ → ℕ → List ℕ
+changedAt v k mark = edited changingImage ((100, v) ∷ (708, k) ∷ (760, mark) ∷ [])
+
+abbrev pub settled : ℕ → List ℕ
+settled mark = edited changingImage ((704, 2) ∷ (708, 0) ∷ (712, 0) ∷ (720, 0) ∷ (760, mark) ∷ [])
+
+-- with start and mark of a dip, a swell, an interruption; the magnitude is 0
+abbrev pub dipAt : ℕ → ℕ → List ℕ
+dipAt start mark = edited changingImage ((724, start) ∷ (728, 0) ∷ (748, mark) ∷ [])
+
+abbrev pub swellAt : ℕ → ℕ → List ℕ
+swellAt start mark = edited changingImage ((732, start) ∷ (752, mark) ∷ [])
+
+abbrev pub interruptionAt : ℕ → ℕ → List ℕ
+interruptionAt start mark = edited changingImage ((740, start) ∷ (756, mark) ∷ [])
+
+-- the marks: 2 in each; 1 for a half-cycle in progress without a sample, a last half-cycle that is not there, a place that is not used, a dip, a swell and an interruption that
+-- do not stand, a change with V < k + N, none
+abbrev pub marksOut : List (List ℕ)
+marksOut =
+    changed 92 4 2 ∷ changed 96 4 2 ∷ changed 584 1 2 ∷ dipAt 151 2 ∷ swellAt 151 2 ∷ interruptionAt 151 2 ∷ changedAt 201 101 2
+    ∷ withoutCount 1 ∷ sets (imageOf q []) 96 (1 ∷ []) ∷ changed 684 1 1 ∷ dipAt 0 1 ∷ swellAt 0 1 ∷ interruptionAt 0 1 ∷ changedAt 200 101 1 ∷ settled 1 ∷ []
+
+abbrev pub marksIn : List (List ℕ)
+marksIn =
+    changed 92 4 1 ∷ changed 96 4 1 ∷ changed 584 1 1 ∷ dipAt 151 1 ∷ swellAt 151 1 ∷ interruptionAt 151 1 ∷ changedAt 201 101 1
+    ∷ withoutCount 0 ∷ imageOf q [] ∷ changed 683 1 1 ∷ dipAt 0 0 ∷ swellAt 0 0 ∷ interruptionAt 0 0 ∷ changedAt 200 101 0 ∷ settled 0 ∷ []
 
 abbrev pub recordsOf : Settings → List ℤ → List Event
 recordsOf s rec = events s (values s rec)
+
+-- the records of a loud recording that is clipped in half-cycle h; the marks of the dip's, and of the change's
+abbrev pub clippedIn : ℕ → List ℤ → List Record
+clippedIn h rec = records (qLoud 400000) (withFirst h (pos 32767) rec)
+
+abbrev pub clippedOf : List Record → List Bool
+clippedOf rs = map (λ r. r .clipped) rs
+
+abbrev pub dipMarks : ℕ → List Bool
+dipMarks h = clippedOf (clippedIn h loudDip)
+
+-- the change's mark after h half-cycles, where half-cycle 152 is clipped
+abbrev pub changeMarkAfter : ℕ → ℕ
+changeMarkAfter h = let rec = take (h * 8) (loudChange 152) in changeMark (qLoud 524256) (marks (qLoud 524256) rec (h - 1)) (signal (qLoud 524256) (values (qLoud 524256) rec))
+
+abbrev pub changeMarks : ℕ → List Bool
+changeMarks h = clippedOf (recordsAt (qLoud 524256) (loudChange h) 252)
 
 pub record BenchReadings : Type 0 where
   pub q-accepted : settingsRefusal q ≡ 0
@@ -164,20 +260,62 @@ pub record BenchReadings : Type 0 where
   pub unsettled-then-steady : readings q (values q unsettled) .phase ≡ 2
   -- the program's samples: dip 3, 3, 800, 0 and V 7, and the record's bytes; fed with no record room: 55 taken, why 1
   pub program-record : recordsOf q program ≡ record { kind = 1; start = 3; duration = 3; first = 800; second = 0 } ∷ []
-  pub program-bytes : recordBytes (recordsOf q program) ≡ 1 ∷ 0 ∷ 0 ∷ 0 ∷ 3 ∷ 0 ∷ 0 ∷ 0 ∷ 3 ∷ 0 ∷ 0 ∷ 0 ∷ 32 ∷ 3 ∷ 0 ∷ 0 ∷ 0 ∷ 0 ∷ 0 ∷ 0 ∷ []
+  pub program-bytes : recordBytes (records q program) ≡ 1 ∷ 0 ∷ 0 ∷ 0 ∷ 3 ∷ 0 ∷ 0 ∷ 0 ∷ 3 ∷ 0 ∷ 0 ∷ 0 ∷ 32 ∷ 3 ∷ 0 ∷ 0 ∷ 0 ∷ 0 ∷ 0 ∷ 0 ∷ []
   pub program-count : length (values q program) ≡ 7
   pub program-without-room : answer q emptyDesk (feed program []) ≡ fed (record { taken = 55; written = 0; why = 1 }) []
-  -- a record, the settings, the image and the reply: 20, 36, 620 and 24 bytes; offset and length of each body
-  pub lengths : recordLength ∷ settingsLength ∷ imageLength ∷ replyLength ∷ [] ≡ 20 ∷ 36 ∷ 620 ∷ 24 ∷ []
+  -- a clipped sample in a dip marks its record; −32767 is not clipped, −32768 is
+  pub clipped-dip : records (qLoud 400000) (flatTop (pos 32767)) ≡ record { event = record { kind = 1; start = 3; duration = 3; first = 266793; second = 0 }; clipped = true } ∷ []
+  pub clipped-bytes :
+      recordBytes (records (qLoud 400000) (flatTop (pos 32767))) ≡ 1 ∷ 1 ∷ 0 ∷ 0 ∷ 3 ∷ 0 ∷ 0 ∷ 0 ∷ 3 ∷ 0 ∷ 0 ∷ 0 ∷ 41 ∷ 18 ∷ 4 ∷ 0 ∷ 0 ∷ 0 ∷ 0 ∷ 0 ∷ []
+  pub not-clipped : records (qLoud 400000) (flatTop (negsuc 32766)) ≡ record { event = record { kind = 1; start = 3; duration = 3; first = 266793; second = 0 }; clipped = false } ∷ []
+  pub clipped-below : records (qLoud 400000) (flatTop (negsuc 32767)) ≡ record { event = record { kind = 1; start = 3; duration = 3; first = 266795; second = 0 }; clipped = true } ∷ []
+  -- clipped values before its start or at b leave the dip's mark 0, one at its start or at b − 1 does not; so do those before k and after m − N of a change, and one at k or at
+  -- m − N does not
+  pub clipped-before-dip : dipMarks 2 ≡ false ∷ []
+  pub clipped-first-in-dip : dipMarks 3 ≡ true ∷ []
+  pub clipped-last-in-dip : dipMarks 6 ≡ true ∷ []
+  pub clipped-at-b : dipMarks 7 ≡ false ∷ []
+  pub clipped-before-change : changeMarks 150 ≡ false ∷ []
+  pub clipped-first-in-change : changeMarks 151 ≡ true ∷ []
+  pub clipped-last-in-change : changeMarks 153 ≡ true ∷ []
+  pub clipped-after-change : changeMarks 154 ≡ false ∷ []
+  -- so with swells and interruptions: a swell, behind a dip that is not clipped, with its value 4 clipped, and with value 5 = b; an interruption with value 6 = b clipped, in a dip
+  -- that goes on to 6
+  pub clipped-swell :
+      clippedIn 4 loudSwell
+      ≡ record { event = record { kind = 1; start = 1; duration = 2; first = 352000; second = 0 }; clipped = false }
+      ∷ record { event = record { kind = 2; start = 4; duration = 1; first = 467994; second = 0 }; clipped = true } ∷ []
+  pub clipped-at-b-of-swell :
+      clippedIn 6 loudSwell
+      ≡ record { event = record { kind = 1; start = 1; duration = 2; first = 352000; second = 0 }; clipped = false }
+      ∷ record { event = record { kind = 2; start = 4; duration = 1; first = 464000; second = 0 }; clipped = false } ∷ []
+  pub clipped-at-b-of-interruption :
+      clippedIn 7 loudOutage
+      ≡ record { event = record { kind = 3; start = 4; duration = 2; first = 0; second = 0 }; clipped = false }
+      ∷ record { event = record { kind = 1; start = 3; duration = 4; first = 0; second = 0 }; clipped = true } ∷ []
+  -- after a clipped dip that still stands: V and the values, their marks; count and marks of the half-cycle in progress and the last one; start and mark of the dip
+  pub clipped-values : take 6 (valuesIn (imageOf (qLoud 400000) flatSoFar)) ≡ 5 ∷ 400000 ∷ 400000 ∷ 349826 ∷ 266793 ∷ 329848 ∷ []
+  pub clipped-marks : take 5 (drop 121 (valuesIn (imageOf (qLoud 400000) flatSoFar))) ≡ 0 ∷ 0 ∷ 1 ∷ 1 ∷ 0 ∷ []
+  pub clipped-halves : let ns = gathererIn (imageOf (qLoud 400000) flatSoFar) in getD ns 0 0 ∷ drop 4 ns ≡ 4 ∷ 1 ∷ 0 ∷ []
+  pub clipped-standing : let ns = eventsIn (imageOf (qLoud 400000) flatSoFar) in getD ns 5 0 ∷ getD ns 11 0 ∷ [] ≡ 3 ∷ 1 ∷ []
+  -- after a clipped swell that still stands: starts and magnitudes of dip, swell and interruption; their marks and the change's
+  pub swell-standing : drop 5 (eventsIn (imageOf (qLoud 400000) swellSoFar)) ≡ 0 ∷ 0 ∷ 4 ∷ 467994 ∷ 0 ∷ 0 ∷ 0 ∷ 1 ∷ 0 ∷ 0 ∷ []
+  -- in a change a clipped value counts once it has left the window: value 151 at V = 251
+  pub change-unmarked : changeMarkAfter 251 ≡ 0
+  pub change-marked : changeMarkAfter 252 ≡ 1
+  -- a record, the settings, the image and the reply: 20, 36, 764 and 24 bytes; offset and length of each body
+  pub lengths : recordLength ∷ settingsLength ∷ imageLength ∷ replyLength ∷ [] ≡ 20 ∷ 36 ∷ 764 ∷ 24 ∷ []
   pub sections :
       settingsOffset ∷ settingsLength ∷ gathererOffset ∷ gathererLength ∷ valuesOffset ∷ valuesLength ∷ eventsOffset ∷ eventsLength ∷ []
-      ≡ 32 ∷ 36 ∷ 68 ∷ 24 ∷ 92 ∷ 484 ∷ 576 ∷ 44 ∷ []
+      ≡ 32 ∷ 36 ∷ 68 ∷ 32 ∷ 100 ∷ 604 ∷ 704 ∷ 60 ∷ []
   -- a whole image in a change with a dip standing, byte by byte; what restore refuses one rule away from it, and what it accepts beside that
   pub changing-image : imageOf q changing ≡ changingImage
   pub changing-accepted : restoreRefusal changingImage ≡ 0
-  pub lengths-refused : refusals ([] ∷ take 619 changingImage ∷ (changingImage ++ (0 ∷ [])) ∷ []) ≡ 8 ∷ 8 ∷ 8 ∷ []
-  pub table-refused : refusals (changed 0 4 2 ∷ changed 4 2 33 ∷ changed 30 2 45 ∷ []) ≡ 9 ∷ 9 ∷ 9 ∷ []
+  pub lengths-refused : refusals ([] ∷ take 763 changingImage ∷ (changingImage ++ (0 ∷ [])) ∷ []) ≡ 8 ∷ 8 ∷ 8 ∷ []
+  pub table-refused : refusals (changed 0 4 2 ∷ changed 4 2 33 ∷ changed 30 2 61 ∷ []) ≡ 9 ∷ 9 ∷ 9 ∷ []
   pub settings-refused : refusals settingsOut ≡ replicate 12 10
   pub settings-accepted : refusals settingsIn ≡ replicate 12 0
   pub bodies-refused : refusals bodiesOut ≡ replicate 20 11
   pub bodies-accepted : refusals bodiesIn ≡ replicate 15 0
+  pub marks-refused : refusals marksOut ≡ replicate 15 11
+  pub marks-accepted : refusals marksIn ≡ replicate 15 0

@@ -1,5 +1,6 @@
 -- The bench readings, computed.
 use mathlib.Core.Path.{_≡_, refl}
+use mathlib.Core.Bool.{true, false}
 use mathlib.Core.List.{[], _∷_, _++_}
 use Prim.Native.Nat.{_*_}
 use lib.ListN.{length, take, replicate}
@@ -9,7 +10,8 @@ use Rattle.reading.specs.Image.{imageOf}
 use Rattle.reading.specs.Restore.{restoreRefusal}
 use Rattle.reading.specs.Engineer.{readings}
 use Rattle.reading.specs.Bench.{BenchReadings, q, qWith, repeated, change, restless, unsettled, recordsOf}
-use Rattle.reading.specs.Bench.{changing, changingImage, changed, refusals, settingsOut, settingsIn, bodiesOut, bodiesIn}
+use Rattle.reading.specs.Bench.{changing, changingImage, changed, refusals, settingsOut, settingsIn, bodiesOut, bodiesIn, marksOut, marksIn}
+use Rattle.reading.specs.Bench.{changeMarks, changeMarkAfter}
 
 q-is-accepted : settingsRefusal q ≡ 0
 unfolding settingsRefusal
@@ -48,6 +50,30 @@ none-is-at-394 : recordsOf (qWith 8 394 150) change ≡ []
 unfolding root
 none-is-at-394 = refl
 
+clipped-before-change-is : changeMarks 150 ≡ false ∷ []
+unfolding root
+clipped-before-change-is = refl
+
+clipped-first-in-change-is : changeMarks 151 ≡ true ∷ []
+unfolding root
+clipped-first-in-change-is = refl
+
+clipped-last-in-change-is : changeMarks 153 ≡ true ∷ []
+unfolding root
+clipped-last-in-change-is = refl
+
+clipped-after-change-is : changeMarks 154 ≡ false ∷ []
+unfolding root
+clipped-after-change-is = refl
+
+change-is-unmarked : changeMarkAfter 251 ≡ 0
+unfolding root
+change-is-unmarked = refl
+
+change-is-marked : changeMarkAfter 252 ≡ 1
+unfolding root
+change-is-marked = refl
+
 changing-image-is : imageOf q changing ≡ changingImage
 unfolding root
 changing-image-is = refl
@@ -57,11 +83,11 @@ changing-is-accepted : restoreRefusal changingImage ≡ 0
 unfolding restoreRefusal startRefusal settingsRefusal
 changing-is-accepted = refl
 
-lengths-are-refused : refusals ([] ∷ take 619 changingImage ∷ (changingImage ++ (0 ∷ [])) ∷ []) ≡ 8 ∷ 8 ∷ 8 ∷ []
+lengths-are-refused : refusals ([] ∷ take 763 changingImage ∷ (changingImage ++ (0 ∷ [])) ∷ []) ≡ 8 ∷ 8 ∷ 8 ∷ []
 unfolding restoreRefusal startRefusal settingsRefusal
 lengths-are-refused = refl
 
-table-is-refused : refusals (changed 0 4 2 ∷ changed 4 2 33 ∷ changed 30 2 45 ∷ []) ≡ 9 ∷ 9 ∷ 9 ∷ []
+table-is-refused : refusals (changed 0 4 2 ∷ changed 4 2 33 ∷ changed 30 2 61 ∷ []) ≡ 9 ∷ 9 ∷ 9 ∷ []
 unfolding restoreRefusal startRefusal settingsRefusal
 table-is-refused = refl
 
@@ -80,6 +106,14 @@ bodies-are-refused = refl
 bodies-are-accepted : refusals bodiesIn ≡ replicate 15 0
 unfolding restoreRefusal startRefusal settingsRefusal
 bodies-are-accepted = refl
+
+marks-are-refused : refusals marksOut ≡ replicate 15 11
+unfolding restoreRefusal startRefusal settingsRefusal
+marks-are-refused = refl
+
+marks-are-accepted : refusals marksIn ≡ replicate 15 0
+unfolding restoreRefusal startRefusal settingsRefusal
+marks-are-accepted = refl
 
 pub bench-holds : BenchReadings
 unfolding root
@@ -119,6 +153,28 @@ bench-holds = record {
   program-bytes = refl;
   program-count = refl;
   program-without-room = refl;
+  clipped-dip = refl;
+  clipped-bytes = refl;
+  not-clipped = refl;
+  clipped-below = refl;
+  clipped-before-dip = refl;
+  clipped-first-in-dip = refl;
+  clipped-last-in-dip = refl;
+  clipped-at-b = refl;
+  clipped-before-change = clipped-before-change-is;
+  clipped-first-in-change = clipped-first-in-change-is;
+  clipped-last-in-change = clipped-last-in-change-is;
+  clipped-after-change = clipped-after-change-is;
+  clipped-swell = refl;
+  clipped-at-b-of-swell = refl;
+  clipped-at-b-of-interruption = refl;
+  clipped-values = refl;
+  clipped-marks = refl;
+  clipped-halves = refl;
+  clipped-standing = refl;
+  swell-standing = refl;
+  change-unmarked = change-is-unmarked;
+  change-marked = change-is-marked;
   lengths = refl;
   sections = refl;
   changing-image = changing-image-is;
@@ -129,4 +185,6 @@ bench-holds = record {
   settings-accepted = settings-are-accepted;
   bodies-refused = bodies-are-refused;
   bodies-accepted = bodies-are-accepted;
+  marks-refused = marks-are-refused;
+  marks-accepted = marks-are-accepted;
 }

@@ -6,21 +6,25 @@ use lib.ListN.{length, take}
 use lib.IntN.{ℤ}
 use Rattle.settings.specs.declared.Settings.{Settings}
 use Rattle.numbers.specs.Notation.{_≤ᵇ_, _≡ᵇ_, if_then_else_}
-use Rattle.reading.specs.declared.Event.{Event}
-use Rattle.reading.specs.Values.{valueCount, history}
-use Rattle.reading.specs.Records.{due}
+use Rattle.reading.specs.declared.Record.{Record}
+use Rattle.reading.specs.Values.{valueCount}
+use Rattle.reading.specs.Records.{recordsAt}
 
 -- V's end
 abbrev pub lastValue : ℕ
 lastValue = 4294967295
 
--- the events due at the c values after value v
-abbrev pub dueAfter : Settings → List ℤ → ℕ → ℕ → List Event
+-- the records due at the c values after value v
+abbrev pub dueAfter : Settings → List ℤ → ℕ → ℕ → List Record
 dueAfter s rec v zero = []
-dueAfter s rec v (suc c) = dueAfter s rec v c ++ due s (history s rec (v + suc c))
+dueAfter s rec v (suc c) = dueAfter s rec v c ++ recordsAt s rec (v + suc c)
 
--- the events due at the values that the first n samples of a block complete
-abbrev pub completed : Settings → List ℤ → List ℤ → ℕ → List Event
+-- all records of a recording, by the value at which they are due
+abbrev pub records : Settings → List ℤ → List Record
+records s rec = dueAfter s rec 0 (valueCount s rec)
+
+-- the records due at the values that the first n samples of a block complete
+abbrev pub completed : Settings → List ℤ → List ℤ → ℕ → List Record
 completed s rec block n = let longer = rec ++ take n block in dueAfter s longer (valueCount s rec) (valueCount s longer - valueCount s rec)
 
 -- the first n samples of a block keep V within its end

@@ -1,7 +1,8 @@
--- 01, "The image" of a recording.
+-- 01, "The image" of a recording, with 02's marks.
+use mathlib.Core.Bool.{Bool, false}
 use mathlib.Core.List.{List, [], _∷_, _++_, reverse}
-use Prim.Native.Nat.{ℕ, zero, suc, _-_, _*_, _%_}
-use lib.ListN.{length, take, drop, replicate}
+use Prim.Native.Nat.{ℕ, zero, suc, _-_, _%_}
+use lib.ListN.{length, take, replicate}
 use lib.IntN.{ℤ}
 use Rattle.octets.specs.Bytes.{row}
 use Rattle.settings.specs.declared.Settings.{Settings}
@@ -9,7 +10,8 @@ use Rattle.numbers.specs.Notation.{_<ᵇ_, _≡ᵇ_, if_then_else_, flag}
 use Rattle.settings.specs.Settings.{windowLength, settingsLength, settingsBytes}
 use Rattle.reading.specs.declared.Kind.{Kind}
 use Rattle.reading.specs.declared.Kind.the-variants.{Dip, Swell, Interruption}
-use Rattle.reading.specs.Values.{squares, energy, halves, values, since}
+use Rattle.reading.specs.Values.{squares, energy, halves, inProgress, values, since}
+use Rattle.reading.specs.Clipping.{anyClipped, halfClipped, marksOf, clippedSince, clippedFrom}
 use Rattle.reading.specs.Thresholds.{standsSince, magnitude}
 use Rattle.reading.specs.Changes.{Signal, signal, sumBefore, greatestDifference, firstStand}
 use Rattle.reading.specs.Changes.Signal.{filling, unsettled, steady, changing}
@@ -30,17 +32,26 @@ abbrev pub lastSum : Settings → List ℤ → ℕ → ℕ
 lastSum s rec zero = 0
 lastSum s rec (suc h) = energy s rec (suc h)
 
--- body 2: count and sum of the half-cycle in progress, the last whole one's sum, whether there is one
+-- and its mark
+abbrev pub lastClipped : Settings → List ℤ → ℕ → Bool
+lastClipped s rec zero = false
+lastClipped s rec (suc h) = halfClipped s rec (suc h)
+
+-- body 2: count and sum of the half-cycle in progress, the last whole one's sum, whether there is one; the marks of both
 abbrev pub gathererBytes : Settings → List ℤ → List ℕ
 gathererBytes s rec =
     let whole = halves s rec in
-    row gathererWidths (length rec % s .samples ∷ squares (drop (whole * s .samples) rec) ∷ lastSum s rec whole ∷ flag (0 <ᵇ whole) ∷ [])
+    let now = inProgress s rec in
+    row gathererWidths
+    (length rec % s .samples ∷ squares now ∷ lastSum s rec whole ∷ flag (0 <ᵇ whole) ∷ flag (anyClipped now) ∷ flag (lastClipped s rec whole) ∷ [])
 
--- body 3: V, then the places with the last N values at most, oldest first, the rest 0
-abbrev pub valuesBytes : Settings → List ℕ → List ℕ
-valuesBytes s hist =
-    let kept = reverse (take (windowLength s) hist) in
-    row valuesWidths (length hist ∷ (kept ++ replicate (places - length kept) 0))
+-- 120 places with the last n numbers of a history at most, oldest first, the rest 0
+abbrev pub placesOf : ℕ → List ℕ → List ℕ
+placesOf n hist = let kept = reverse (take n hist) in kept ++ replicate (places - length kept) 0
+
+-- body 3: V, the places of the values, and those of their marks
+abbrev pub valuesBytes : Settings → List ℕ → List ℕ → List ℕ
+valuesBytes s hist ms = let n = windowLength s in row valuesWidths (length hist ∷ (placesOf n hist ++ placesOf n ms))
 
 -- the phase's number: 0 fewer than N values, 1 never yet steady, 2 steady, 3 in a change
 abbrev pub phaseNumber : Signal → ℕ
@@ -63,14 +74,28 @@ standingNumbers s kind hist =
     let so-far = magnitude kind (since a hist) in
     if a ≡ᵇ 0 then 0 ∷ 0 ∷ [] else a ∷ so-far ∷ []
 
--- body 4: the phase, what a change carries, and the dip, the swell and the interruption
-abbrev pub eventsBytes : Settings → List ℕ → List ℕ
-eventsBytes s hist =
+-- an event's mark so far, over its start to V; 0 where none stands
+abbrev pub standingMark : Settings → Kind → List ℕ → List ℕ → ℕ
+standingMark s kind hist ms = flag (clippedSince (standsSince s kind hist) ms)
+
+-- a change's, over k to V − N; 0 outside a change
+abbrev pub changeMark : Settings → List ℕ → Signal → ℕ
+changeMark s ms filling = 0
+changeMark s ms unsettled = 0
+changeMark s ms steady = 0
+changeMark s ms (changing k) = flag (clippedFrom s k ms)
+
+-- body 4: the phase, what a change carries, the dip, the swell and the interruption; and the marks of the three and of the change
+abbrev pub eventsBytes : Settings → List ℕ → List ℕ → List ℕ
+eventsBytes s hist ms =
     let now = signal s hist in
-    row eventsWidths (phaseNumber now ∷ (changeNumbers s hist now ++ (standingNumbers s Dip hist ++ (standingNumbers s Swell hist ++ standingNumbers s Interruption hist))))
+    row eventsWidths
+    (phaseNumber now ∷ (changeNumbers s hist now ++ (standingNumbers s Dip hist ++ (standingNumbers s Swell hist ++ (standingNumbers s Interruption hist
+    ++ (standingMark s Dip hist ms ∷ standingMark s Swell hist ms ∷ standingMark s Interruption hist ms ∷ changeMark s ms now ∷ []))))))
 
 -- the image: the table, the settings and the three other bodies
 abbrev pub imageOf : Settings → List ℤ → List ℕ
 imageOf s rec =
     let hist = values s rec in
-    table ++ (settingsBytes s ++ (gathererBytes s rec ++ (valuesBytes s hist ++ eventsBytes s hist)))
+    let ms = marksOf s rec in
+    table ++ (settingsBytes s ++ (gathererBytes s rec ++ (valuesBytes s hist ms ++ eventsBytes s hist ms)))

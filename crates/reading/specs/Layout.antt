@@ -1,13 +1,13 @@
--- 01, "The record", "The image" and the reply of advance: how wide each number is. Lengths and places follow as sums; 01's own figures are `lengths` and `sections` of Bench.
-use mathlib.Core.List.{List, [], _∷_}
+-- 01, "The record", "The image" and the reply of advance: how wide each number is. Lengths and places follow as sums; 01's and 02's own figures are `lengths` and `sections` of Bench.
+use mathlib.Core.List.{List, [], _∷_, _++_}
 use Prim.Native.Nat.{ℕ, _+_, _*_}
 use lib.ListN.{replicate}
 use Rattle.octets.specs.Bytes.{total}
 use Rattle.settings.specs.Settings.{settingsLength}
 
--- a record: kind, zero bytes, start, duration, first and second magnitude
+-- a record: kind, mark, zero bytes, start, duration, first and second magnitude
 abbrev pub recordWidths : List ℕ
-recordWidths = 1 ∷ 3 ∷ 4 ∷ 4 ∷ 4 ∷ 4 ∷ []
+recordWidths = 1 ∷ 1 ∷ 2 ∷ 4 ∷ 4 ∷ 4 ∷ 4 ∷ []
 
 abbrev pub recordLength : ℕ
 recordLength = total recordWidths
@@ -19,26 +19,26 @@ entryWidths = 4 ∷ 2 ∷ 2 ∷ []
 abbrev pub tableLength : ℕ
 tableLength = 4 * total entryWidths
 
--- body 2: count, sum, last sum, mark
+-- body 2: count, sum, last sum, whether there is a last half-cycle; the marks of the half-cycle in progress and of the last one
 abbrev pub gathererWidths : List ℕ
-gathererWidths = 4 ∷ 8 ∷ 8 ∷ 4 ∷ []
+gathererWidths = 4 ∷ 8 ∷ 8 ∷ 4 ∷ 4 ∷ 4 ∷ []
 
 abbrev pub gathererLength : ℕ
 gathererLength = total gathererWidths
 
--- body 3: V, then 120 places
+-- body 3: V, then 120 places for values and as many for their marks
 abbrev pub places : ℕ
 places = 120
 
 abbrev pub valuesWidths : List ℕ
-valuesWidths = 4 ∷ replicate places 4
+valuesWidths = 4 ∷ (replicate places 4 ++ replicate places 1)
 
 abbrev pub valuesLength : ℕ
 valuesLength = total valuesWidths
 
--- body 4: the phase and a change's four numbers; start and magnitude of dip, swell and interruption
+-- body 4: the phase and a change's four numbers; start and magnitude of dip, swell and interruption; the marks of dip, swell, interruption and change
 abbrev pub eventsWidths : List ℕ
-eventsWidths = replicate 11 4
+eventsWidths = replicate 15 4
 
 abbrev pub eventsLength : ℕ
 eventsLength = total eventsWidths

@@ -1,6 +1,7 @@
 pub mod Values
 pub mod Thresholds
 pub mod Changes
+pub mod Clipping
 pub mod Layout
 pub mod Records
 pub mod Image

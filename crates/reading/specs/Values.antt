@@ -25,9 +25,13 @@ abbrev pub squares : List ℤ → ℕ
 squares [] = 0
 squares (x ∷ xs) = square x + squares xs
 
--- E(h): the sum of squares of half-cycle h, from 1, which is samples (h − 1) × M + 1 to h × M
+-- half-cycle h, from 1: samples (h − 1) × M + 1 to h × M
+abbrev pub half : Settings → List ℤ → ℕ → List ℤ
+half s rec h = take (s .samples) (drop ((h - 1) * s .samples) rec)
+
+-- E(h): the sum of squares of half-cycle h
 abbrev pub energy : Settings → List ℤ → ℕ → ℕ
-energy s rec h = squares (take (s .samples) (drop ((h - 1) * s .samples) rec))
+energy s rec h = squares (half s rec h)
 
 -- the root of a number is found from the root of its quarter, down to zero. The first argument bounds how often, and n is often enough for n
 abbrev pub rootBy : ℕ → ℕ → ℕ
@@ -49,6 +53,10 @@ value s rec i = rms (s .samples) (energy s rec i) (energy s rec (i + 1))
 -- the whole half-cycles
 abbrev pub halves : Settings → List ℤ → ℕ
 halves s rec = length rec / s .samples
+
+-- the samples of the half-cycle in progress
+abbrev pub inProgress : Settings → List ℤ → List ℤ
+inProgress s rec = drop (halves s rec * s .samples) rec
 
 -- V: r(i) exists once half-cycle i + 1 is whole. (V's end is kept by feed.)
 abbrev pub valueCount : Settings → List ℤ → ℕ

@@ -17,6 +17,12 @@ pub struct Event {
     pub second: u64,
 }
 
+// An event's record: the event, and whether a value from its start to the last one in its first magnitude is clipped.
+pub struct Record {
+    pub event: Event,
+    pub clipped: bool,
+}
+
 impl Event {
     pub const DIP: u8 = 1;
 

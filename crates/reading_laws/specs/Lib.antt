@@ -5,4 +5,5 @@ pub mod RecordingsLaws
 pub mod CompletedLaws
 pub mod TakenLaws
 pub mod SignalLaws
+pub mod MarksLaws
 pub mod SentencesProof

@@ -1,6 +1,7 @@
 -- The laws of recordings: what a longer recording leaves as it was, when a value is new, how great a value is, and the sentence of 01 that it meets.
-use mathlib.Core.Path.{_≡_, refl, ap, ap₂}
-use mathlib.Core.List.{List, [], _∷_, _++_}
+use mathlib.Core.Path.{_≡_, refl, sym, _∙_, ap, ap₂}
+use mathlib.Core.Bool.{Bool, _||_, or-assoc}
+use mathlib.Core.List.{List, [], _∷_, _++_, map}
 use Prim.Native.Nat.{ℕ, zero, suc, _+_, _-_, _*_, _/_, _%_, _^_, _≤_, _<_}
 use native.Mathlib.Omega.{arith}
 use native.Mathlib.Nat.{mul-le-mul, add-mul, le-div-iff-mul-le, div-lt-iff-lt-mul}
@@ -8,7 +9,10 @@ use lib.ListN.{length, take, drop, length-append, length-take, length-drop}
 use lib.Seq.{take-append-le, drop-append-le}
 use lib.IntN.{ℤ, pos, negsuc, natAbs}
 use Rattle.settings.specs.declared.Settings.{Settings}
-use Rattle.reading.specs.Values.{Sample, Samples, square, squares, energy, rms, value, halves, valueCount, history}
+use Rattle.numbers.specs.Notation.{flag}
+use Rattle.reading.specs.Values.{Sample, Samples, square, squares, half, energy, rms, value, halves, valueCount, history}
+use Rattle.reading.specs.Clipping.{clipped, anyClipped, valueClipped, marks, recordOf}
+use Rattle.reading.specs.Records.{due, recordsAt}
 use Rattle.reading_laws.specs.Sentences.{Greatest}
 use Rattle.reading_laws.specs.RootLaws.{root-is, root-most, root-le}
 use Rattle.reading_laws.specs.DivisionLaws.{div-same, div-next, div-grow}
@@ -48,6 +52,10 @@ squares-append (x ∷ xs) ys = omega (arith, squares-append xs ys)
 part-grow : (rec xs : List ℤ) (a n : ℕ) → a + n ≤ length rec → take n (drop a (rec ++ xs)) ≡ take n (drop a rec)
 part-grow rec xs a n h = rw (drop-append-le a rec xs (omega arith)) (take-append-le n (drop a rec) xs (simp length-drop (omega arith)))
 
+pub anyClipped-append : (xs ys : List ℤ) → anyClipped (xs ++ ys) ≡ (anyClipped xs || anyClipped ys)
+anyClipped-append [] ys = refl
+anyClipped-append (x ∷ xs) ys = ap (λ (b : Bool). clipped x || b) (anyClipped-append xs ys) ∙ sym (or-assoc (clipped x) (anyClipped xs) (anyClipped ys))
+
 half-end : (h m n : ℕ) → 1 ≤ h → h * m ≤ n → (h - 1) * m + m ≤ n
 half-end h m n p q = let e : h ≡ (h - 1) + 1 = omega arith in omega (arith, ap (λ (x : ℕ). x * m) e, add-mul (h - 1) 1 m)
 
@@ -55,10 +63,14 @@ pub length-history : (s : Settings) (rec : List ℤ) (i : ℕ) → length (histo
 length-history s rec zero = refl
 length-history s rec (suc i) = ap suc (length-history s rec i)
 
+pub length-marks : (s : Settings) (rec : List ℤ) (i : ℕ) → length (marks s rec i) ≡ i
+length-marks s rec zero = refl
+length-marks s rec (suc i) = ap suc (length-marks s rec i)
+
 -- a recording that grows by xs
 module _ (s : Settings) (rec xs : List ℤ) where
-  pub energy-grow : (h : ℕ) → 1 ≤ h → h * s .samples ≤ length rec → energy s (rec ++ xs) h ≡ energy s rec h
-  energy-grow h p q = ap squares (part-grow rec xs ((h - 1) * s .samples) (s .samples) (half-end h (s .samples) (length rec) p q))
+  pub half-grow : (h : ℕ) → 1 ≤ h → h * s .samples ≤ length rec → half s (rec ++ xs) h ≡ half s rec h
+  half-grow h p q = part-grow rec xs ((h - 1) * s .samples) (s .samples) (half-end h (s .samples) (length rec) p q)
 
   module _ (some : 0 < s .samples) where
     pub halves-grow : halves s rec ≤ halves s (rec ++ xs)
@@ -67,16 +79,30 @@ module _ (s : Settings) (rec xs : List ℤ) where
     pub valueCount-grow : valueCount s rec ≤ valueCount s (rec ++ xs)
     valueCount-grow = let h = halves-grow in omega arith
 
-    -- a value does not change
-    pub value-grow : (i : ℕ) → 1 ≤ i → i ≤ valueCount s rec → value s (rec ++ xs) i ≡ value s rec i
-    value-grow i p q =
-        ap₂ (rms (s .samples))
-        (energy-grow i p (le-div-iff-mul-le some .0 (omega arith)))
-        (energy-grow (i + 1) (omega arith) (le-div-iff-mul-le some .0 (omega arith)))
+    -- the half-cycles of a value do not change, and so its size and its mark
+    module _ (i : ℕ) (p : 1 ≤ i) (q : i ≤ valueCount s rec) where
+      first-same : half s (rec ++ xs) i ≡ half s rec i
+      first-same = half-grow i p (le-div-iff-mul-le some .0 (omega arith))
+
+      second-same : half s (rec ++ xs) (i + 1) ≡ half s rec (i + 1)
+      second-same = half-grow (i + 1) (omega arith) (le-div-iff-mul-le some .0 (omega arith))
+
+      pub value-grow : value s (rec ++ xs) i ≡ value s rec i
+      value-grow = λ j. rms (s .samples) (squares (first-same j)) (squares (second-same j))
+
+      pub valueClipped-grow : valueClipped s (rec ++ xs) i ≡ valueClipped s rec i
+      valueClipped-grow = λ j. anyClipped (first-same j) || anyClipped (second-same j)
 
     pub history-grow : (i : ℕ) → i ≤ valueCount s rec → history s (rec ++ xs) i ≡ history s rec i
     history-grow zero q = refl
     history-grow (suc i) q = ap₂ _∷_ (value-grow (suc i) (omega arith) q) (history-grow i (omega arith))
+
+    pub marks-grow : (i : ℕ) → i ≤ valueCount s rec → marks s (rec ++ xs) i ≡ marks s rec i
+    marks-grow zero q = refl
+    marks-grow (suc i) q = ap₂ _∷_ (ap flag (valueClipped-grow (suc i) (omega arith) q)) (marks-grow i (omega arith))
+
+    pub recordsAt-grow : (i : ℕ) → i ≤ valueCount s rec → recordsAt s (rec ++ xs) i ≡ recordsAt s rec i
+    recordsAt-grow i q = λ j. map (recordOf (marks-grow i q j)) (due s (history-grow i q j))
 
     -- samples that complete no half-cycle
     module _ (h : length rec % s .samples + length xs < s .samples) where

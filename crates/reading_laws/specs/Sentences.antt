@@ -1,18 +1,21 @@
--- The sentences of 01 that a reader expects of the readings, where a definition recurses in its own way: the statement.
+-- The sentences of 01 and 02 that a reader expects of the readings, where a definition recurses in its own way: the statement.
 use mathlib.Core.Path.{_≡_}
 use mathlib.Core.Logic.{_⊎_}
 use mathlib.Core.Bool.{Bool, true, false}
-use mathlib.Core.List.{List, _∷_, _++_}
+use mathlib.Core.List.{List, _∷_, _++_, map}
 use Prim.Native.Nat.{ℕ, _+_, _-_, _*_, _≤_, _<_}
 use lib.ListN.{length, take}
 use lib.IntN.{ℤ}
 use Rattle.settings.specs.declared.Settings.{Settings}
 use Rattle.settings.specs.Settings.{windowLength}
+use Rattle.reading.specs.declared.Event.{Event}
+use Rattle.reading.specs.declared.Record.{Record}
 use Rattle.reading.specs.Values.{Samples, energy, root, value, valueCount, values, upTo}
+use Rattle.reading.specs.Clipping.{valueClipped, marks, lastMeasured, eventClipped}
 use Rattle.reading.specs.Changes.{calm, Signal, signal}
 use Rattle.reading.specs.Changes.Signal.{filling, unsettled, steady, changing}
 use Rattle.reading.specs.Records.{events}
-use Rattle.reading.specs.Feed.{lastValue, completed, allowed, taken}
+use Rattle.reading.specs.Feed.{lastValue, records, completed, allowed, taken}
 
 -- r is the greatest number with P
 pub record Greatest (P : ℕ → Type 0) (r : ℕ) : Type 0 where
@@ -47,6 +50,13 @@ PhaseSays s hist unsettled = (windowLength s ≤ length hist) × NeverTrue s his
 PhaseSays s hist steady = isSteady s hist ≡ true
 PhaseSays s hist (changing k) = LastTurnedFalse s hist k
 
+-- a value from a to l is clipped
+pub record ClippedFrom (s : Settings) (rec : List ℤ) (a l : ℕ) : Type 0 where
+  pub at : ℕ
+  pub from : a ≤ at
+  pub to : at ≤ l
+  pub clipped : valueClipped s rec at ≡ true
+
 pub record Sentences : Type 0 where
   -- the root of n is the greatest number whose square is at most n
   pub root-greatest : (n : ℕ) → Greatest (λ (r : ℕ). r * r ≤ n) (root n)
@@ -78,6 +88,11 @@ pub record Sentences : Type 0 where
       → (taken s rec block room ≤ length block) × (allowed s rec block room (taken s rec block room) ≡ true)
   pub taken-most : (s : Settings) → 0 < s .samples → (rec block : List ℤ) (room k : ℕ) → k ≤ length block → allowed s rec block room k ≡ true
       → k ≤ taken s rec block room
-  -- what a feed writes are the events that its samples add to the recording's
-  pub records-added : (s : Settings) → 0 < s .samples → (rec block : List ℤ) (n : ℕ)
-      → events s (values s (rec ++ take n block)) ≡ events s (values s rec) ++ completed s rec block n
+  -- what a feed writes are the records that its samples add to the recording's; marks aside, a recording's records are its events
+  pub records-added : (s : Settings) → 0 < s .samples → (rec block : List ℤ) (n : ℕ) → records s (rec ++ take n block) ≡ records s rec ++ completed s rec block n
+  pub records-are-events : (s : Settings) (rec : List ℤ) → map (λ (r : Record). r .event) (records s rec) ≡ events s (values s rec)
+  -- an event's mark, read off the marks up to any value i from its last measured one on: 1 exactly when a value from its start to that one is clipped
+  pub marked-only-if : (s : Settings) (rec : List ℤ) (i : ℕ) (e : Event) → lastMeasured e ≤ i → eventClipped (marks s rec i) e ≡ true
+      → ClippedFrom s rec (e .start) (lastMeasured e)
+  pub marked-if : (s : Settings) (rec : List ℤ) (i : ℕ) (e : Event) → 1 ≤ e .start → lastMeasured e ≤ i → ClippedFrom s rec (e .start) (lastMeasured e)
+      → eventClipped (marks s rec i) e ≡ true

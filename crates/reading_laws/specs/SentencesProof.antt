@@ -3,7 +3,10 @@ use native.Mathlib.Omega.{arith}
 use Rattle.reading_laws.specs.Sentences.{Sentences}
 use Rattle.reading_laws.specs.RootLaws.{root-is, root-most}
 use Rattle.reading_laws.specs.RecordingsLaws.{value-is, value-le, value-grow}
-use Rattle.reading_laws.specs.CompletedLaws.{events-completed}
+use Rattle.reading.specs.Values.{valueCount}
+use Rattle.reading.specs.Clipping.{lastMeasured}
+use Rattle.reading_laws.specs.MarksLaws.{marked-clipped, clipped-marked}
+use Rattle.reading_laws.specs.CompletedLaws.{records-events, records-completed}
 use Rattle.reading_laws.specs.TakenLaws.{taken-le, taken-allowed, taken-greatest}
 use Rattle.reading_laws.specs.SignalLaws.{signal-was, false-before-N, calm-after-true, calm-if-never, false-in-change, calm-in-change, calm-at-N, phase-says}
 
@@ -23,5 +26,8 @@ sentences-hold = record {
   signal-says = phase-says;
   taken-fits = λ s h rec block room v. (taken-le s rec block room h, taken-allowed s rec block room h v);
   taken-most = λ s h rec block room. taken-greatest s rec block room h;
-  records-added = λ s h. events-completed s h;
+  records-added = λ s h. records-completed s h;
+  records-are-events = λ s rec. records-events s rec (valueCount s rec);
+  marked-only-if = λ s rec i e h. marked-clipped s rec i (e .start) (lastMeasured e) h;
+  marked-if = λ s rec i e some h. clipped-marked s rec i (e .start) (lastMeasured e) some h;
 }

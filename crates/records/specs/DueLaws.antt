@@ -7,7 +7,7 @@ use lib.ListN.{length, take, drop, length-append}
 use lib.Seq.{take-at, drop-at, drop-drop}
 use Rattle.octets.specs.Bytes.{row}
 use Rattle.octets.specs.RowLaws.{length-row}
-use Rattle.reading.specs.declared.Event.{Event}
+use Rattle.reading.specs.declared.Record.{Record}
 use Rattle.reading.specs.Records.{recordBytes, recordNumbers}
 use Rattle.reading.specs.Engineer.{over}
 use Rattle.reading.specs.Layout.{recordWidths, recordLength}
@@ -15,31 +15,31 @@ use Rattle.threshold.specs.declared.Ended.{Ended}
 use Rattle.threshold.specs.declared.Ended.the-variants.{Nothing, Over}
 use Rattle.threshold.specs.Standing.{listOf}
 use Rattle.records.specs.declared.Due.{Due}
-use Rattle.records.specs.Due.{eventsOf, placed}
+use Rattle.records.specs.Due.{recordsOf, placed}
 
 -- records in bytes
-pub length-recordBytes : (es : List Event) → length (recordBytes es) ≡ recordLength * length es
+pub length-recordBytes : (es : List Record) → length (recordBytes es) ≡ recordLength * length es
 length-recordBytes [] = refl
 length-recordBytes (e ∷ es) = omega (arith, length-append (row recordWidths (recordNumbers e)) (recordBytes es), length-row recordWidths (recordNumbers e) refl, length-recordBytes es)
 
-pub recordBytes-append : (xs ys : List Event) → recordBytes (xs ++ ys) ≡ recordBytes xs ++ recordBytes ys
+pub recordBytes-append : (xs ys : List Record) → recordBytes (xs ++ ys) ≡ recordBytes xs ++ recordBytes ys
 recordBytes-append [] ys = refl
 recordBytes-append (x ∷ xs) ys = rw (recordBytes-append xs ys) (sym (append-assoc (row recordWidths (recordNumbers x)) (recordBytes xs) (recordBytes ys)))
 
--- the events due at one value, at most one of each kind
-pub length-eventsOf : (d : Due)
-    → length (eventsOf d) ≡ length (listOf (d .dip)) + (length (listOf (d .swell)) + (length (listOf (d .interruption)) + length (listOf (d .change))))
-length-eventsOf d = simp length-append
+-- the records due at one value, at most one of each kind
+pub length-recordsOf : (d : Due)
+    → length (recordsOf d) ≡ length (listOf (d .dip)) + (length (listOf (d .swell)) + (length (listOf (d .interruption)) + length (listOf (d .change))))
+length-recordsOf d = simp length-append
 
 listOf-one : (e : Ended) → length (listOf e) ≤ 1
 listOf-one Nothing = omega arith
 listOf-one (Over e) = omega arith
 
-pub eventsOf-most : (d : Due) → length (eventsOf d) ≤ 4
-eventsOf-most d = omega (arith, length-eventsOf d, listOf-one (d .dip), listOf-one (d .swell), listOf-one (d .interruption), listOf-one (d .change))
+pub recordsOf-most : (d : Due) → length (recordsOf d) ≤ 4
+recordsOf-most d = omega (arith, length-recordsOf d, listOf-one (d .dip), listOf-one (d .swell), listOf-one (d .interruption), listOf-one (d .change))
 
 -- records behind records
-module _ (k : ℕ) (es fs : List Event) (lent out : List ℕ) (k-is : k ≡ recordLength * length es) (out-is : out ≡ over (recordBytes es) lent) where
+module _ (k : ℕ) (es fs : List Record) (lent out : List ℕ) (k-is : k ≡ recordLength * length es) (out-is : out ≡ over (recordBytes es) lent) where
   pub placed-records : placed k (recordBytes fs) out ≡ over (recordBytes (es ++ fs)) lent
   placed-records =
       let front = recordBytes es in

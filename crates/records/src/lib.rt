@@ -1,5 +1,6 @@
-// The record of an event, and the records due at one value.
+// A record in bytes, and the records due at one value.
 use reading::Event;
+use reading::Record;
 use threshold::Ended;
 ghost use mathlib.Core.Path.{_≡_};
 ghost use mathlib.Core.List.{[], _∷_};
@@ -9,14 +10,14 @@ ghost use Rattle.reading.specs.Records.{recordBytes};
 ghost use Rattle.reading.specs.Engineer.{over};
 ghost use Rattle.reading.specs.Layout.{recordLength};
 ghost use Rattle.threshold.specs.Standing.{listOf};
-ghost use Rattle.records.specs.Due.{eventsOf, eventOf, placed};
+ghost use Rattle.records.specs.Due.{recordsOf, eventOf, placed};
 
-// A record: kind, zero bytes, start, duration, first and second magnitude.
+// A record: kind, mark, zero bytes, start, duration, first and second magnitude.
 pub const RECORD_LENGTH: usize = 20;
 
-const WIDTHS: [u8; 6] = [1, 3, 4, 4, 4, 4];
+const WIDTHS: [u8; 7] = [1, 1, 2, 4, 4, 4, 4];
 
-// The events due at one value, by kind.
+// The records due at one value, by kind.
 pub struct Due {
     pub dip: Ended,
     pub swell: Ended,
@@ -24,14 +25,16 @@ pub struct Due {
     pub change: Ended,
 }
 
-// Writes an event's record into its part of a buffer.
-pub fn put_record(part: &mut [u8], event: Event)
+// Writes a record into its part of a buffer.
+pub fn put_record(part: &mut [u8], record: Record)
     requires { ⌜ length (now part) ≡ recordLength ⌝ }
-    ensures { λ _. ⌜ now (part .exit) ≡ recordBytes (event ∷ []) ⌝ }
+    ensures { λ _. ⌜ now (part .exit) ≡ recordBytes («record» ∷ []) ⌝ }
 {
+    let event = record.event;
     let widths = WIDTHS;
     let numbers = [
         event.kind as u64,
+        numbers::flag(record.clipped) as u64,
         0,
         event.start,
         event.duration,
@@ -47,14 +50,14 @@ pub fn get_record(bytes: &[u8]) -> Event
     ensures { λ r. ⌜ r ≡ eventOf (now (bytes .entry)) ⌝ }
 {
     let widths = WIDTHS;
-    let mut numbers = [0u64; 6];
+    let mut numbers = [0u64; 7];
     octets::get_row(bytes, &widths, &mut numbers);
     Event {
         kind: numbers[0] as u8,
-        start: numbers[2],
-        duration: numbers[3],
-        first: numbers[4],
-        second: numbers[5],
+        start: numbers[3],
+        duration: numbers[4],
+        first: numbers[5],
+        second: numbers[6],
     }
 }
 
@@ -65,9 +68,9 @@ fn put_ended(ended: Ended, buffer: &mut [u8], at: usize) -> usize
 {
     match ended {
         Ended::Nothing => at,
-        Ended::Over(event) => {
+        Ended::Over(record) => {
             let end = at + RECORD_LENGTH;
-            put_record(&mut buffer[at..end], event);
+            put_record(&mut buffer[at..end], record);
             end
         }
     }
@@ -85,7 +88,7 @@ fn count_of(ended: Ended) -> usize
 impl Due {
     // How many there are.
     pub fn count(self) -> usize
-        ensures { λ r. ⌜ r ≡ length (eventsOf self) ⌝ }
+        ensures { λ r. ⌜ r ≡ length (recordsOf self) ⌝ }
     {
         let dip = self.dip;
         let swell = self.swell;
@@ -96,8 +99,8 @@ impl Due {
 
     // Writes their records, by kind, at the front of a buffer. With most values there are none.
     pub fn put(self, buffer: &mut [u8])
-        requires { ⌜ recordLength * length (eventsOf self) ≤ length (now buffer) ⌝ }
-        ensures { λ _. ⌜ now (buffer .exit) ≡ over (recordBytes (eventsOf self)) (now (buffer .entry)) ⌝ }
+        requires { ⌜ recordLength * length (recordsOf self) ≤ length (now buffer) ⌝ }
+        ensures { λ _. ⌜ now (buffer .exit) ≡ over (recordBytes (recordsOf self)) (now (buffer .entry)) ⌝ }
     {
         if self.count() == 0 {
             return;

@@ -1,43 +1,114 @@
 // From samples to values: parts of a half-cycle, the integer root, the RMS value of two half-cycles, and the gatherer of half-cycles.
 ghost use mathlib.Core.Path.{_≡_};
 ghost use Prim.Native.Nat.{_+_, _*_, _^_, _≤_, _<_};
-ghost use lib.ListN.{length};
-ghost use Rattle.reading.specs.Values.{square as squareOf, root as rootOf, rms};
-ghost use Rattle.rms.specs.Gather.{partOf, noSample, withPart, withHalf, cut as cutOf, gathered, ValidGatherer};
+ghost use lib.ListN.{length, take, getD};
+ghost use lib.IntN.{pos};
+ghost use Rattle.reading.specs.Values.{root as rootOf, rms};
+ghost use Rattle.rms.specs.Gather.{squaredOf, partOf, pairWith, noSample, withPart, withHalf, cut as cutOf, gathered, ValidGatherer};
 
-// A part of a half-cycle: how many samples, and the sum of their squares.
+// A sample's square, and whether the sample is clipped.
+pub struct Squared {
+    pub square: u32,
+    pub clipped: bool,
+}
+
+// A part of a half-cycle: how many samples, the sum of their squares, and whether one is clipped.
 pub struct Part {
     pub count: u32,
     pub squares: u64,
+    pub clipped: bool,
 }
 
-// The square of a sample.
-pub fn square(sample: i16) -> u32
-    ensures { λ r. ⌜ (r ≡ squareOf sample) × (r ≤ 2 ^ 30) ⌝ }
+// The square of a sample, and whether it is one of the two counts at which a recording is clipped.
+pub fn square(sample: i16) -> Squared
+    ensures { λ r. ⌜ (r ≡ squaredOf sample) × (r .square ≤ 2 ^ 30) ⌝ }
 {
     let wide = sample as i32;
-    (wide * wide) as u32
+    Squared {
+        square: (wide * wide) as u32,
+        clipped: (sample == 32_767) | (sample == -32_768),
+    }
 }
 
-// The part that samples are, at most one half-cycle of them. Two squares are added before they are summed, since processors multiply samples and add the
-// products of neighbours in one step.
+// Two neighbours of every eight samples: the sum of the squares of both, and a mark for each.
+struct Pair {
+    squares: u64,
+    left: bool,
+    right: bool,
+}
+
+impl Pair {
+    // With the two samples at a place.
+    fn with_two(self, samples: &[i16], at: usize) -> Pair
+        requires { ⌜ (at + 1 < length (now samples)) × (self .squares + 2 ^ 31 < 2 ^ 64) ⌝ }
+        ensures { λ r. ⌜ (r ≡ pairWith self (getD (now (samples .entry)) at (pos 0)) (getD (now (samples .entry)) (at + 1) (pos 0)))
+            × (r .squares ≤ self .squares + 2 ^ 31) ⌝ }
+    {
+        let a = square(samples[at]);
+        let b = square(samples[at + 1]);
+        Pair {
+            squares: self.squares + (a.square + b.square) as u64,
+            left: self.left | a.clipped,
+            right: self.right | b.clipped,
+        }
+    }
+}
+
+// The part that the first samples are, eight at a time, as processors multiply, add and compare eight in one step. The pairs are named and added from the last
+// on: so the compiler leaves the samples in their order.
+fn sum_eights(samples: &[i16], eights: usize) -> Part
+    requires { ⌜ (8 * eights ≤ length (now samples)) × (length (now samples) ≤ 256) ⌝ }
+    ensures { λ r. ⌜ (r ≡ partOf (take (8 * eights) (now (samples .entry)))) × (r .squares ≤ 8 * eights * 2 ^ 30) ⌝ }
+{
+    let none = Pair {
+        squares: 0,
+        left: false,
+        right: false,
+    };
+    let mut fourth = none;
+    let mut third = none;
+    let mut second = none;
+    let mut first = none;
+    let mut turn: usize = 0;
+    while turn < eights {
+        let at = 8 * turn;
+        first = first.with_two(samples, at);
+        second = second.with_two(samples, at + 2);
+        third = third.with_two(samples, at + 4);
+        fourth = fourth.with_two(samples, at + 6);
+        turn += 1;
+    }
+    Part {
+        count: (8 * eights) as u32,
+        squares: fourth.squares + third.squares + second.squares + first.squares,
+        clipped: (first.left | first.right)
+            | (second.left | second.right)
+            | (third.left | third.right)
+            | (fourth.left | fourth.right),
+    }
+}
+
+// The part that samples are, at most one half-cycle of them: eight at a time, and the rest one by one.
 pub fn sum_squares(samples: &[i16]) -> Part
     requires { ⌜ length (now samples) ≤ 256 ⌝ }
     ensures { λ r. ⌜ (r ≡ partOf (now (samples .entry))) × (r .squares ≤ r .count * 2 ^ 30) ⌝ }
 {
-    let mut sum: u64 = 0;
+    let eights = sum_eights(samples, samples.len() / 8);
+    let rest = samples.len() % 8;
+    let end = samples.len() - rest;
+    let mut sum = eights.squares;
+    let mut clipped = eights.clipped;
     let mut i: usize = 0;
-    while i + 1 < samples.len() {
-        let two = square(samples[i]) + square(samples[i + 1]);
-        sum += two as u64;
-        i += 2;
-    }
-    if i < samples.len() {
-        sum += square(samples[i]) as u64;
+    while i < rest {
+        let one = square(samples[end + i]);
+        sum += one.square as u64;
+        clipped = clipped | one.clipped;
+        i += 1;
     }
     Part {
         count: samples.len() as u32,
         squares: sum,
+        clipped,
     }
 }
 
@@ -67,6 +138,12 @@ pub fn rms_value(half_length: u32, first: u64, second: u64, near: u32) -> u32
     root(mean_square, near) as u32
 }
 
+// A value in sixteenths of a count, and whether one of its samples is clipped.
+pub struct Marked {
+    pub value: u32,
+    pub clipped: bool,
+}
+
 // What is kept of the samples.
 pub struct Gatherer {
     // Of the half-cycle in progress: how many samples, and the sum of their squares.
@@ -75,6 +152,9 @@ pub struct Gatherer {
     // Of the last whole half-cycle: its sum, and whether there is one. Without one the sum is 0.
     pub last: u64,
     pub whole: bool,
+    // Whether a sample of the half-cycle in progress is clipped, and of the last whole one.
+    pub clipped: bool,
+    pub last_clipped: bool,
 }
 
 // How many of the samples to come belong to the half-cycle in progress, and whether the last of them ends it.
@@ -98,6 +178,8 @@ impl Gatherer {
             sum: 0,
             last: 0,
             whole: false,
+            clipped: false,
+            last_clipped: false,
         }
     }
 
@@ -129,10 +211,12 @@ impl Gatherer {
             sum: self.sum + part.squares,
             last: self.last,
             whole: self.whole,
+            clipped: self.clipped | part.clipped,
+            last_clipped: self.last_clipped,
         }
     }
 
-    // With the part that ends it: its sum is kept, and a new half-cycle begins.
+    // With the part that ends it: its sum and its mark are kept, and a new half-cycle begins.
     pub fn with_half(self, part: Part) -> Gatherer
         requires { ⌜ self .sum + part .squares < 2 ^ 64 ⌝ }
         ensures { λ r. ⌜ r ≡ withHalf self part ⌝ }
@@ -142,6 +226,8 @@ impl Gatherer {
             sum: 0,
             last: self.sum + part.squares,
             whole: true,
+            clipped: false,
+            last_clipped: self.clipped | part.clipped,
         }
     }
 

@@ -1,14 +1,16 @@
--- One value's step of the phase, and what a history leaves of it.
+-- One value's step of the phase, and what a history and its marks leave of it.
 use mathlib.Core.Bool.{Bool, false, _&&_, _||_}
 use mathlib.Core.List.{List, [], _∷_}
 use Prim.Native.Nat.{ℕ, suc, _-_, _*_, _≤_, _<_, max}
 use lib.ListN.{length, take}
-use Rattle.numbers.specs.Notation.{_≤ᵇ_, _<ᵇ_, _≡ᵇ_, if_then_else_}
+use Rattle.numbers.specs.Notation.{_≤ᵇ_, _<ᵇ_, _≡ᵇ_, if_then_else_, flag}
 use Rattle.numbers.specs.Rules.{Holds}
 use Rattle.settings.specs.declared.Settings.{Settings}
 use Rattle.settings.specs.declared.Scaled.{Scaled}
 use Rattle.settings.specs.Settings.{windowLength}
 use Rattle.reading.specs.declared.Kind.the-variants.{Dip, Swell}
+use Rattle.reading.specs.declared.Event.{Event}
+use Rattle.reading.specs.Clipping.{clippedFrom}
 use Rattle.reading.specs.Thresholds.{standsSince}
 use Rattle.reading.specs.Changes.{sum, gap, calm, Signal, signal, sumBefore, greatestDifference, firstStand}
 use Rattle.reading.specs.Changes.Signal.{filling, unsettled, steady, changing}
@@ -25,7 +27,7 @@ use Rattle.rvc.specs.declared.Moved.{Moved}
 
 -- a change that begins with the value j
 abbrev pub changeFrom : Joining → Change
-changeFrom j = record { start = j .number; sum = j .before; difference = 0; stand = if j .stands then j .number else 0 }
+changeFrom j = record { start = j .number; sum = j .before; difference = 0; stand = if j .stands then j .number else 0; clipped = false }
 
 -- one in progress, with the value j that joins the window of n
 abbrev pub grown : ℕ → Joining → Change → Change
@@ -34,14 +36,15 @@ grown n j c = record {
   sum = c .sum;
   difference = if j .number - c .start <ᵇ n then c .difference else max (gap (n * j .leaving) (c .sum)) (c .difference);
   stand = if 0 <ᵇ c .stand then c .stand else if j .stands then j .number else 0;
+  clipped = if j .number - c .start <ᵇ n then c .clipped else j .mark ≡ᵇ 1 || c .clipped;
 }
 
--- the event of one that is over with j; none where a dip or a swell first stood before the window
+-- the record of one that is over with j; none where a dip or a swell first stood before the window
 abbrev pub closing : ℕ → Joining → Change → Ended
 closing n j c =
     let settled = j .number - n in
-    if 0 <ᵇ c .stand && c .stand ≤ᵇ settled then Nothing
-    else Over (record { kind = 4; start = c .start; duration = settled - c .start; first = c .difference; second = gap (j .after) (c .sum) })
+    let e : Event = record { kind = 4; start = c .start; duration = settled - c .start; first = c .difference; second = gap (j .after) (c .sum) } in
+    if 0 <ᵇ c .stand && c .stand ≤ᵇ settled then Nothing else Over (record { event = e; clipped = c .clipped })
 
 -- whether the signal is false at value i, whatever the window: while it fills, and up to k + n in a change since k
 abbrev pub heldAt : ℕ → ℕ → Phase → Bool
@@ -50,7 +53,7 @@ heldAt n i Unsettled = false
 heldAt n i Steady = false
 heldAt n i (Changing c) = i - c .start ≤ᵇ n
 
--- after a value at which the signal is false; and the event that ends with one at which it is true
+-- after a value at which the signal is false; and the record that ends with one at which it is true
 abbrev pub onward : ℕ → Joining → Phase → Phase
 onward n j Filling = if j .number <ᵇ n then Filling else Unsettled
 onward n j Unsettled = Unsettled
@@ -63,7 +66,7 @@ endedOf n j Unsettled = Nothing
 endedOf n j Steady = Nothing
 endedOf n j (Changing c) = closing n j (grown n j c)
 
--- the phase after the value j, at which the signal is true or not, and the event that ends with it
+-- the phase after the value j, at which the signal is true or not, and the record that ends with it
 abbrev pub movedBy : ℕ → Joining → Bool → Phase → Moved
 movedBy n j isSteady p = record { phase = if isSteady then Steady else onward n j p; ended = if isSteady then endedOf n j p else Nothing }
 
@@ -78,7 +81,7 @@ abbrev pub limitOf : Scaled → Phase → ℕ
 limitOf t Filling = t .limit
 limitOf t Unsettled = t .limit
 limitOf t Steady = t .limit
-limitOf t (Changing c) = t .reduced
+limitOf t (Changing c) = t .limit - t .reduction
 
 -- the signal at j as the code tests it, where part are the other values of its window, and the code's step
 abbrev pub steadyBy : Scaled → ℕ → List ℕ → Joining → Phase → Bool
@@ -87,12 +90,13 @@ steadyBy t n part j p = if heldAt n (j .number) p then false else calmWith n (j 
 abbrev pub movedOn : Scaled → ℕ → List ℕ → Joining → Phase → Moved
 movedOn t n part j p = movedBy n j (steadyBy t n part j p) p
 
--- value r after v values, from the window w of n before it; the signal there, by the reading's calm; and the step
-abbrev pub joiningOf : ℕ → ℕ → List ℕ → ℕ → Bool → Joining
-joiningOf n v w r stands = record {
+-- value r after v values, from the window w of n and its marks before it; the signal there, by the reading's calm; and the step
+abbrev pub joiningOf : ℕ → ℕ → List ℕ → List ℕ → ℕ → Bool → Joining
+joiningOf n v w ms r stands = record {
   number = suc v;
   value = r;
   leaving = leaving n v w;
+  mark = leaving n v ms;
   before = sum (take n w);
   after = sum (take n (pushed n v w r));
   stands = stands;
@@ -101,21 +105,27 @@ joiningOf n v w r stands = record {
 abbrev pub steadyAfter : Settings → ℕ → List ℕ → ℕ → Phase → Bool
 steadyAfter s v w r p = let n = windowLength s in if heldAt n (suc v) p then false else calm s (limitIn s p) (pushed n v w r)
 
-abbrev pub movedAfter : Settings → ℕ → List ℕ → ℕ → Bool → Phase → Moved
-movedAfter s v w r stands p = let n = windowLength s in movedBy n (joiningOf n v w r stands) (steadyAfter s v w r p) p
+abbrev pub movedAfter : Settings → ℕ → List ℕ → List ℕ → ℕ → Bool → Phase → Moved
+movedAfter s v w ms r stands p = let n = windowLength s in movedBy n (joiningOf n v w ms r stands) (steadyAfter s v w r p) p
 
--- what a history leaves
-abbrev pub changeOf : Settings → ℕ → List ℕ → Change
-changeOf s k hist = record { start = k; sum = sumBefore s k hist; difference = greatestDifference s k hist; stand = firstStand s k hist }
+-- what a history and its marks leave
+abbrev pub changeOf : Settings → ℕ → List ℕ → List ℕ → Change
+changeOf s k hist ms = record {
+  start = k;
+  sum = sumBefore s k hist;
+  difference = greatestDifference s k hist;
+  stand = firstStand s k hist;
+  clipped = clippedFrom s k ms;
+}
 
-abbrev pub phaseOn : Settings → List ℕ → Signal → Phase
-phaseOn s hist filling = Filling
-phaseOn s hist unsettled = Unsettled
-phaseOn s hist steady = Steady
-phaseOn s hist (changing k) = Changing (changeOf s k hist)
+abbrev pub phaseOn : Settings → List ℕ → List ℕ → Signal → Phase
+phaseOn s hist ms filling = Filling
+phaseOn s hist ms unsettled = Unsettled
+phaseOn s hist ms steady = Steady
+phaseOn s hist ms (changing k) = Changing (changeOf s k hist ms)
 
-abbrev pub phaseOf : Settings → List ℕ → Phase
-phaseOf s hist = phaseOn s hist (signal s hist)
+abbrev pub phaseOf : Settings → List ℕ → List ℕ → Phase
+phaseOf s hist ms = phaseOn s hist ms (signal s hist)
 
 -- whether a dip or a swell first stands at the newest value
 abbrev pub standsFirst : Settings → List ℕ → Bool
@@ -139,9 +149,16 @@ phaseRow Unsettled = 1 ∷ 0 ∷ 0 ∷ 0 ∷ 0 ∷ []
 phaseRow Steady = 2 ∷ 0 ∷ 0 ∷ 0 ∷ 0 ∷ []
 phaseRow (Changing c) = 3 ∷ changeRow c
 
+-- and their mark
+abbrev pub phaseMark : Phase → ℕ
+phaseMark Filling = 0
+phaseMark Unsettled = 0
+phaseMark Steady = 0
+phaseMark (Changing c) = flag (c .clipped)
+
 -- what refusal 11 allows of them, in a window of n values, after v of them
 abbrev pub ValidChange : ℕ → ℕ → Change → Type 0
-ValidChange n v c = Holds (changeRule n v (changeRow c))
+ValidChange n v c = Holds (changeRule n v (changeRow c) (flag (c .clipped)))
 
 abbrev pub ValidPhase : ℕ → ℕ → Phase → Type 0
-ValidPhase n v p = Holds (phaseRule n v (phaseRow p))
+ValidPhase n v p = Holds (phaseRule n v (phaseRow p) (phaseMark p))

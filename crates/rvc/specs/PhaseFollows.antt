@@ -1,15 +1,17 @@
--- The phase follows the history: stepped by a value it is the phase of the longer history, and the event that ends is the one that the reading has due.
+-- The phase follows the history: stepped by a value it is the phase of the longer history, and the record that ends is the one that the reading
+-- has due, with its mark.
 use mathlib.Core.Path.{_≡_, refl, _∙_, ap}
 use mathlib.Core.Bool.{Bool, true, false}
-use mathlib.Core.List.{List, [], _∷_}
+use mathlib.Core.List.{List, [], _∷_, map}
 use Prim.Native.Nat.{ℕ, suc, _+_, _-_, _≤_, _<_}
 use native.Mathlib.Omega.{arith}
 use lib.ListN.{length}
 use borrow.Author.Tests.{ltb-true, ltb-false, le-leb, lt-leb, leb-true, leb-false}
-use Rattle.numbers.specs.Notation.{_≤ᵇ_, _<ᵇ_, if_then_else_}
+use Rattle.numbers.specs.Notation.{_≤ᵇ_, _<ᵇ_, if_then_else_, flag}
 use Rattle.settings.specs.declared.Settings.{Settings}
 use Rattle.settings.specs.Settings.{windowLength}
 use Rattle.settings.specs.SettingsLaws.{windowLength-some, windowLength-most}
+use Rattle.reading.specs.Clipping.{recordOf}
 use Rattle.reading.specs.Changes.{calm, Signal, next, signal, changeOver, changeDue}
 use Rattle.reading.specs.Changes.Signal.{filling, unsettled, steady, changing}
 use Rattle.threshold.specs.declared.Ended.the-variants.{Nothing}
@@ -71,7 +73,7 @@ age-is i k n h = go (i ≤ᵇ k + n) refl
     go true e = let g : i ≤ k + n = leb-true i (k + n) e in le-leb (i - k) n (omega arith)
     go false e = let g : k + n < i = leb-false i (k + n) e in lt-leb (i - k) n (omega arith)
 
-module _ (s : Settings) (r : ℕ) (older : List ℕ) where
+module _ (s : Settings) (r : ℕ) (older : List ℕ) (clipped : Bool) (ms : List ℕ) (beside : length ms ≡ length older) where
   abbrev n : ℕ
   n = windowLength s
 
@@ -83,32 +85,32 @@ module _ (s : Settings) (r : ℕ) (older : List ℕ) where
   steadyOn p = if heldAt n i p then false else calm s (limitIn s p) (windowOf (windowLength s) (r ∷ older))
 
   signal-is : (k : ℕ) → (n < k) × (k ≤ length older) →
-      steadyOn (Changing (changeOf s k older)) ≡ (if i ≤ᵇ k + n then false else calm s (s .limit - s .reduction) (r ∷ older))
+      steadyOn (Changing (changeOf s k older ms)) ≡ (if i ≤ᵇ k + n then false else calm s (s .limit - s .reduction) (r ∷ older))
   signal-is k h = rw (age-is i k n (omega arith), calm-windowOf s (s .limit - s .reduction) (r ∷ older) (omega arith))
 
-  settles : (c : Bool) → (if c then Steady else Unsettled) ≡ phaseOn s (r ∷ older) (if c then steady else unsettled)
+  settles : (c : Bool) → (if c then Steady else Unsettled) ≡ phaseOn s (r ∷ older) (flag clipped ∷ ms) (if c then steady else unsettled)
   settles true = refl
   settles false = refl
 
   phase-on : (p : Signal) → ValidSignal n (length older) p →
-      movedBy n (joiningNewest s r older) (steadyOn (phaseOn s older p)) (phaseOn s older p) .phase ≡ phaseOn s (r ∷ older) (next s (r ∷ older) p)
+      movedBy n (joiningNewest s r older ms) (steadyOn (phaseOn s older ms p)) (phaseOn s older ms p) .phase ≡ phaseOn s (r ∷ older) (flag clipped ∷ ms) (next s (r ∷ older) p)
   phase-on filling h = fills (i <ᵇ n) refl
     where
       fills : (b : Bool) → (i <ᵇ n) ≡ b →
           (if (if b then false else calm s (s .limit) (windowOf (windowLength s) (r ∷ older))) then Steady else if b then Filling else Unsettled)
-          ≡ phaseOn s (r ∷ older) (if b then filling else if calm s (s .limit) (r ∷ older) then steady else unsettled)
+          ≡ phaseOn s (r ∷ older) (flag clipped ∷ ms) (if b then filling else if calm s (s .limit) (r ∷ older) then steady else unsettled)
       fills true e = refl
       fills false e = rw (calm-windowOf s (s .limit) (r ∷ older) (ltb-false _ _ e)) (settles (calm s (s .limit) (r ∷ older)))
   phase-on unsettled h = rw (calm-windowOf s (s .limit) (r ∷ older) (omega arith)) (settles (calm s (s .limit) (r ∷ older)))
-  phase-on steady h = rw (calm-windowOf s (s .limit) (r ∷ older) (omega arith), change-begins s r older h) (leaves (calm s (s .limit) (r ∷ older)))
+  phase-on steady h = rw (calm-windowOf s (s .limit) (r ∷ older) (omega arith), change-begins s r older clipped ms beside h) (leaves (calm s (s .limit) (r ∷ older)))
     where
-      leaves : (c : Bool) → (if c then Steady else Changing (changeOf s i (r ∷ older))) ≡ phaseOn s (r ∷ older) (if c then steady else changing i)
+      leaves : (c : Bool) → (if c then Steady else Changing (changeOf s i (r ∷ older) (flag clipped ∷ ms))) ≡ phaseOn s (r ∷ older) (flag clipped ∷ ms) (if c then steady else changing i)
       leaves true = refl
       leaves false = refl
-  phase-on (changing k) h = rw (signal-is k h, change-grows s k r older (h .0) (h .1)) (stays (i ≤ᵇ k + n) (calm s (s .limit - s .reduction) (r ∷ older)))
+  phase-on (changing k) h = rw (signal-is k h, change-grows s k r older clipped ms beside (h .0) (h .1)) (stays (i ≤ᵇ k + n) (calm s (s .limit - s .reduction) (r ∷ older)))
     where
-      stays : (b c : Bool) → (if (if b then false else c) then Steady else Changing (changeOf s k (r ∷ older)))
-          ≡ phaseOn s (r ∷ older) (if b then changing k else if c then steady else changing k)
+      stays : (b c : Bool) → (if (if b then false else c) then Steady else Changing (changeOf s k (r ∷ older) (flag clipped ∷ ms)))
+          ≡ phaseOn s (r ∷ older) (flag clipped ∷ ms) (if b then changing k else if c then steady else changing k)
       stays true c = refl
       stays false true = refl
       stays false false = refl
@@ -118,28 +120,30 @@ module _ (s : Settings) (r : ℕ) (older : List ℕ) where
   none false = refl
 
   ended-on : (p : Signal) → ValidSignal n (length older) p →
-      listOf (movedBy n (joiningNewest s r older) (steadyOn (phaseOn s older p)) (phaseOn s older p) .ended) ≡ changeOver s (r ∷ older) p (next s (r ∷ older) p)
+      listOf (movedBy n (joiningNewest s r older ms) (steadyOn (phaseOn s older ms p)) (phaseOn s older ms p) .ended) ≡ map (recordOf (flag clipped ∷ ms)) (changeOver s (r ∷ older) p (next s (r ∷ older) p))
   ended-on filling h = none (steadyOn Filling)
   ended-on unsettled h = none (steadyOn Unsettled)
   ended-on steady h = none (steadyOn Steady)
-  ended-on (changing k) h = rw (signal-is k h) (ends (i ≤ᵇ k + n) (calm s (s .limit - s .reduction) (r ∷ older)))
+  ended-on (changing k) h = rw (signal-is k h) (ends (i ≤ᵇ k + n) (calm s (s .limit - s .reduction) (r ∷ older)) refl)
     where
-      ends : (b c : Bool) → listOf (if (if b then false else c) then closing n (joiningNewest s r older) (grown n (joiningNewest s r older) (changeOf s k older)) else Nothing)
-          ≡ changeOver s (r ∷ older) (changing k) (if b then changing k else if c then steady else changing k)
-      ends true c = refl
-      ends false true =
-          ap (λ (c : Change). listOf (closing n (joiningNewest s r older) c)) (change-grows s k r older (h .0) (h .1)) ∙ change-ends s k r older (omega arith)
-      ends false false = refl
+      ends : (b c : Bool) → (i ≤ᵇ k + n) ≡ b
+          → listOf (if (if b then false else c) then closing n (joiningNewest s r older ms) (grown n (joiningNewest s r older ms) (changeOf s k older ms)) else Nothing)
+          ≡ map (recordOf (flag clipped ∷ ms)) (changeOver s (r ∷ older) (changing k) (if b then changing k else if c then steady else changing k))
+      ends true c e = refl
+      ends false true e =
+          ap (λ (c : Change). listOf (closing n (joiningNewest s r older ms) c)) (change-grows s k r older clipped ms beside (h .0) (h .1))
+          ∙ change-ends s k r older clipped ms beside (omega (arith, leb-false i (k + n) e))
+      ends false false e = refl
 
-module _ (s : Settings) (r : ℕ) (older : List ℕ) where
+module _ (s : Settings) (r : ℕ) (older : List ℕ) (clipped : Bool) (ms : List ℕ) (beside : length ms ≡ length older) where
   -- value r joins the window that the older values leave
   abbrev moved : Moved
-  moved = movedAfter s (length older) (windowOf (windowLength s) older) r (standsFirst s (r ∷ older)) (phaseOf s older)
+  moved = movedAfter s (length older) (windowOf (windowLength s) older) (windowOf (windowLength s) ms) r (standsFirst s (r ∷ older)) (phaseOf s older ms)
 
-  pub phase-follows : moved .phase ≡ phaseOf s (r ∷ older)
+  pub phase-follows : moved .phase ≡ phaseOf s (r ∷ older) (flag clipped ∷ ms)
   phase-follows =
-      rw (window-follows (windowLength s) r older (windowLength-some s) (windowLength-most s)) (phase-on s r older (signal s older) (signal-valid s older))
+      rw (window-follows (windowLength s) r older (windowLength-some s) (windowLength-most s)) (phase-on s r older clipped ms beside (signal s older) (signal-valid s older))
 
-  pub ended-follows : listOf (moved .ended) ≡ changeDue s (r ∷ older)
+  pub ended-follows : listOf (moved .ended) ≡ map (recordOf (flag clipped ∷ ms)) (changeDue s (r ∷ older))
   ended-follows =
-      rw (window-follows (windowLength s) r older (windowLength-some s) (windowLength-most s)) (ended-on s r older (signal s older) (signal-valid s older))
+      rw (window-follows (windowLength s) r older (windowLength-some s) (windowLength-most s)) (ended-on s r older clipped ms beside (signal s older) (signal-valid s older))

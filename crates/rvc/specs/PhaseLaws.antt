@@ -4,7 +4,7 @@ use mathlib.Core.Bool.{Bool, true, false}
 use mathlib.Core.List.{List}
 use Prim.Native.Nat.{ℕ, suc, _-_, _*_, _/_, _≤_}
 use native.Mathlib.Omega.{arith}
-use native.Mathlib.Nat.{mul-le-mul}
+use native.Mathlib.Nat.{mul-le-mul, le-refl}
 use lib.ListN.{length}
 use borrow.Author.Tests.{ltb-false}
 use Rattle.numbers.specs.Notation.{_≤ᵇ_, _<ᵇ_, if_then_else_}
@@ -28,7 +28,11 @@ limitOf-is : (s : Settings) (p : Phase) → limitOf (scaledOf s) p ≡ limitIn s
 limitOf-is s Filling = refl
 limitOf-is s Unsettled = refl
 limitOf-is s Steady = refl
-limitOf-is s (Changing c) = refl
+limitOf-is s (Changing c) =
+    let n = windowLength s in
+    let u = s .declared in
+    let less : (s .limit - s .reduction) * n * u ≤ s .limit * n * u = mul-le-mul (mul-le-mul {n₁ = s .limit - s .reduction} {n₂ = s .limit} (omega arith) (le-refl n)) (le-refl u) in
+    omega (arith, less)
 
 -- no limit is above the whole voltage, 10,000 hundredths of a percent
 limitOf-le : (s : Settings) (p : Phase) → ValidSettings s → limitOf (scaledOf s) p ≤ 62914560
@@ -40,12 +44,12 @@ limitOf-le s p valid = rw (limitOf-is s p) (omega (arith, mul-le-mul (mul-le-mul
     most Steady = omega (arith, valid .limit-valid .1 .0)
     most (Changing c) = omega (arith, valid .limit-valid .1 .0)
 
-module _ (s : Settings) (v : ℕ) (w : List ℕ) (r : ℕ) (stands : Bool) (window : ValidWindow (windowLength s) v w) where
+module _ (s : Settings) (v : ℕ) (w ms : List ℕ) (r : ℕ) (stands : Bool) (window : ValidWindow 524288 (windowLength s) v w) where
   abbrev n : ℕ
   n = windowLength s
 
   abbrev j : Joining
-  j = joiningOf (windowLength s) v w r stands
+  j = joiningOf (windowLength s) v w ms r stands
 
   pub joins : (p : Phase) → ValidSettings s → r ≤ 524288 → Joins (scaledOf s) n j p
   joins p settings small = record {

@@ -27,9 +27,9 @@ module _ (n v : ℕ) where
   none (suc (suc (suc (suc i)))) = refl
 
   pub allowed-valid : (p : Phase) → Allowed p → ValidPhase n v p
-  allowed-valid Filling h = (omega arith, ((λ _. h, λ _. refl), (λ e. absurd (omega arith), λ _. none)))
-  allowed-valid Unsettled h = (omega arith, ((λ e. absurd (omega arith), λ e. absurd (omega arith)), (λ e. absurd (omega arith), λ _. none)))
-  allowed-valid Steady h = (omega arith, ((λ e. absurd (omega arith), λ e. absurd (omega arith)), (λ e. absurd (omega arith), λ _. none)))
+  allowed-valid Filling h = (omega arith, ((λ _. h, λ _. refl), (λ e. absurd (omega arith), λ _. (none, refl))))
+  allowed-valid Unsettled h = (omega arith, ((λ e. absurd (omega arith), λ e. absurd (omega arith)), (λ e. absurd (omega arith), λ _. (none, refl))))
+  allowed-valid Steady h = (omega arith, ((λ e. absurd (omega arith), λ e. absurd (omega arith)), (λ e. absurd (omega arith), λ _. (none, refl))))
   allowed-valid (Changing c) h = (omega arith, ((λ e. absurd (omega arith), λ e. absurd (omega arith)), (λ _. h, λ e. absurd (omega arith))))
 
   -- a phase that is not 0 has a full window

@@ -1,12 +1,13 @@
 -- What refusal 11 allows of a phase is kept by the step, from every allowed state, also from one that no recording gives.
 use mathlib.Core.Path.{_≡_, refl}
-use mathlib.Core.Bool.{Bool, true, false}
+use mathlib.Core.Bool.{Bool, true, false, _||_}
 use mathlib.Core.List.{List}
 use Prim.Native.Nat.{ℕ, suc, _+_, _-_, _*_, _≤_, _<_, max}
 use native.Mathlib.Omega.{arith}
 use native.Mathlib.Nat.{mul-le-mul-left}
 use borrow.Author.Tests.{ltb-true, ltb-false}
-use Rattle.numbers.specs.Notation.{_<ᵇ_, if_then_else_}
+use Rattle.numbers.specs.Notation.{_<ᵇ_, _≡ᵇ_, if_then_else_, flag}
+use Rattle.numbers.specs.NotationLaws.{flag-most}
 use Rattle.settings.specs.declared.Settings.{Settings}
 use Rattle.settings.specs.Settings.{windowLength}
 use Rattle.settings.specs.SettingsLaws.{windowLength-most}
@@ -20,21 +21,43 @@ use Rattle.rvc.specs.declared.Joining.{Joining}
 use Rattle.rvc.specs.Phase.{changeFrom, grown, joiningOf, steadyAfter, movedAfter, ValidChange, ValidPhase}
 use Rattle.rvc.specs.PhaseRuleLaws.{Allowed, allowed-valid, valid-allowed}
 
-module _ (n v : ℕ) (w : List ℕ) (r : ℕ) (stands : Bool) (window : ValidWindow n v w) where
+module _ (n v : ℕ) (w ms : List ℕ) (r : ℕ) (stands : Bool) (window : ValidWindow 524288 n v w) where
   abbrev j : Joining
-  j = joiningOf n v w r stands
+  j = joiningOf n v w ms r stands
 
   changeFrom-valid : n ≤ 120 → n ≤ v → ValidChange n (suc v) (changeFrom j)
-  changeFrom-valid most full = (omega arith, (omega arith, (sum-le n v w most window, (omega arith, (λ e. refl, stand stands)))))
+  changeFrom-valid most full =
+      (omega arith, (omega arith, (sum-le n v w most window, (omega arith, (λ e. refl, (stand stands, (omega arith, λ e. refl)))))))
     where
       stand : (b : Bool) → 0 < (if b then suc v else 0) → (suc v ≤ (if b then suc v else 0)) × ((if b then suc v else 0) ≤ suc v)
       stand true h = (omega arith, omega arith)
       stand false h = absurd (omega arith)
 
   grown-valid : (c : Change) → ValidChange n v c → ValidChange n (suc v) (grown n j c)
-  grown-valid c (late, (seen, (sum-small, (difference-small, (early, stood))))) =
-      (late, (omega arith, (sum-small, (grows (suc v - c .start <ᵇ n), (λ e. stays e (suc v - c .start <ᵇ n) refl, stand (0 <ᵇ c .stand) stands refl)))))
+  grown-valid c (late, (seen, (sum-small, (difference-small, (early, (stood, (mark-most, mark-early))))))) = (
+    late,
+    (
+      omega arith,
+      (
+        sum-small,
+        (
+          grows (suc v - c .start <ᵇ n),
+          (
+            λ e. stays e (suc v - c .start <ᵇ n) refl,
+            (stand (0 <ᵇ c .stand) stands refl, (flag-most (clipped (suc v - c .start <ᵇ n)), λ e. unmarked e (suc v - c .start <ᵇ n) refl)),
+          ),
+        ),
+      ),
+    ),
+  )
     where
+      clipped : Bool → Bool
+      clipped b = if b then c .clipped else leaving n v ms ≡ᵇ 1 || c .clipped
+
+      unmarked : suc v < c .start + n → (b : Bool) → (suc v - c .start <ᵇ n) ≡ b → flag (clipped b) ≡ 0
+      unmarked e true f = mark-early (omega arith)
+      unmarked e false f = absurd (omega (arith, ltb-false (suc v - c .start) n f))
+
       difference : Bool → ℕ
       difference b = if b then c .difference else max (gap (n * leaving n v w) (c .sum)) (c .difference)
 
@@ -51,9 +74,9 @@ module _ (n v : ℕ) (w : List ℕ) (r : ℕ) (stands : Bool) (window : ValidWin
       stand false true f h = (omega arith, omega arith)
       stand false false f h = absurd (omega arith)
 
-pub phase-valid : (s : Settings) (v : ℕ) (w : List ℕ) (r : ℕ) (stands : Bool) (p : Phase) → ValidWindow (windowLength s) v w → ValidPhase (windowLength s) v p →
-    ValidPhase (windowLength s) (suc v) (movedAfter s v w r stands p .phase)
-phase-valid s v w r stands p window valid = allowed-valid n (suc v) (movedAfter s v w r stands p .phase) (go p (valid-allowed n v p valid))
+pub phase-valid : (s : Settings) (v : ℕ) (w ms : List ℕ) (r : ℕ) (stands : Bool) (p : Phase) → ValidWindow 524288 (windowLength s) v w → ValidPhase (windowLength s) v p →
+    ValidPhase (windowLength s) (suc v) (movedAfter s v w ms r stands p .phase)
+phase-valid s v w ms r stands p window valid = allowed-valid n (suc v) (movedAfter s v w ms r stands p .phase) (go p (valid-allowed n v p valid))
   where
     n : ℕ
     n = windowLength s
@@ -64,7 +87,7 @@ phase-valid s v w r stands p window valid = allowed-valid n (suc v) (movedAfter 
     After : Phase → Type 0
     After q = Allowed n (suc v) q
 
-    go : (p : Phase) → Before p → After (movedAfter s v w r stands p .phase)
+    go : (p : Phase) → Before p → After (movedAfter s v w ms r stands p .phase)
     go Filling h = fills (suc v <ᵇ n) (calm s (s .limit) (pushed n v w r)) refl
       where
         fills : (b c : Bool) → (suc v <ᵇ n) ≡ b → After (if (if b then false else c) then Steady else if b then Filling else Unsettled)
@@ -78,11 +101,11 @@ phase-valid s v w r stands p window valid = allowed-valid n (suc v) (movedAfter 
         settles false = omega arith
     go Steady h = leaves (calm s (s .limit) (pushed n v w r))
       where
-        leaves : (c : Bool) → After (if c then Steady else Changing (changeFrom (joiningOf n v w r stands)))
+        leaves : (c : Bool) → After (if c then Steady else Changing (changeFrom (joiningOf n v w ms r stands)))
         leaves true = omega arith
-        leaves false = changeFrom-valid n v w r stands window (windowLength-most s) h
+        leaves false = changeFrom-valid n v w ms r stands window (windowLength-most s) h
     go (Changing c) h = stays (steadyAfter s v w r (Changing c))
       where
-        stays : (b : Bool) → After (if b then Steady else Changing (grown n (joiningOf n v w r stands) c))
+        stays : (b : Bool) → After (if b then Steady else Changing (grown n (joiningOf n v w ms r stands) c))
         stays true = omega (arith, h .0, h .1 .0)
-        stays false = grown-valid n v w r stands window c h
+        stays false = grown-valid n v w ms r stands window c h

@@ -1,10 +1,12 @@
 // Rapid voltage changes: the phase, with what a change in progress carries, and one value's step.
 use reading::Event;
+use reading::Record;
 use settings::Scaled;
 use threshold::Ended;
 ghost use mathlib.Core.Path.{_≡_};
+ghost use mathlib.Core.Bool.{_||_};
 ghost use Prim.Native.Nat.{_*_, _≤_, max};
-ghost use Rattle.numbers.specs.Notation.{_<ᵇ_, if_then_else_};
+ghost use Rattle.numbers.specs.Notation.{_<ᵇ_, _≡ᵇ_, if_then_else_};
 ghost use Rattle.reading.specs.Changes.{gap};
 ghost use Rattle.rvc.specs.Phase.{changeFrom, grown, closing, heldAt, limitOf, steadyBy, onward, endedOf, movedOn, Joins};
 
@@ -18,6 +20,8 @@ pub struct Change {
     pub difference: u64,
     // The first value from k on at which a dip or a swell first stands, or 0.
     pub stand: u64,
+    // Whether a value from k to V − N is clipped.
+    pub clipped: bool,
 }
 
 // Fewer than N values; never yet steady; steady; in a change.
@@ -33,8 +37,9 @@ pub struct Joining {
     // Its number, from 1.
     pub number: u64,
     pub value: u32,
-    // The value that leaves the window, 0 where none does.
+    // The value that leaves the window, and its mark, 0 where none does.
     pub leaving: u64,
+    pub mark: u64,
     // The window's sum before it, and with it.
     pub before: u64,
     pub after: u64,
@@ -42,7 +47,7 @@ pub struct Joining {
     pub stands: bool,
 }
 
-// The phase after a value, and the event of a change that ends with it, if one does.
+// The phase after a value, and the record of a change that ends with it, if one does.
 pub struct Moved {
     pub phase: Phase,
     pub ended: Ended,
@@ -77,6 +82,16 @@ fn greatest(window_length: u64, age: u64, leaving: u64, sum: u64, kept: u64) -> 
     if kept < difference { difference } else { kept }
 }
 
+// Whether a value from k to V − N is clipped: with the value that leaves the window, as above.
+fn marked(window_length: u64, age: u64, mark: u64, kept: bool) -> bool
+    ensures { λ r. ⌜ r ≡ (if age <ᵇ «window_length» then kept else mark ≡ᵇ 1 || kept) ⌝ }
+{
+    if window_length <= age {
+        return (mark == 1) | kept;
+    }
+    kept
+}
+
 impl Change {
     // A change that begins with a value.
     fn begin(joining: Joining) -> Change
@@ -88,6 +103,7 @@ impl Change {
             sum: joining.before,
             difference: 0,
             stand,
+            clipped: false,
         }
     }
 
@@ -109,10 +125,11 @@ impl Change {
             sum: self.sum,
             difference,
             stand,
+            clipped: marked(window_length, age, joining.mark, self.clipped),
         }
     }
 
-    // Its event, over with a value; none where a dip or a swell first stood before the window.
+    // Its record, over with a value; none where a dip or a swell first stood before the window.
     fn event(self, window_length: u64, joining: Joining) -> Ended
         ensures { λ r. ⌜ r ≡ closing «window_length» joining self ⌝ }
     {
@@ -127,7 +144,10 @@ impl Change {
             first: self.difference,
             second: distance(joining.after, self.sum),
         };
-        Ended::Over(event)
+        Ended::Over(Record {
+            event,
+            clipped: self.clipped,
+        })
     }
 }
 
@@ -140,7 +160,7 @@ impl Phase {
             Phase::Filling => scaled.limit,
             Phase::Unsettled => scaled.limit,
             Phase::Steady => scaled.limit,
-            Phase::Changing(_) => scaled.reduced,
+            Phase::Changing(_) => numbers::minus(scaled.limit, scaled.reduction),
         }
     }
 
@@ -192,7 +212,7 @@ impl Phase {
         }
     }
 
-    // The event of a change that ends with a value, at which the signal is true.
+    // The record of a change that ends with a value, at which the signal is true.
     fn ended(self, window_length: u64, joining: Joining) -> Ended
         requires { ⌜ («window_length» ≤ 120) × (joining .leaving ≤ 524288) ⌝ }
         ensures { λ r. ⌜ r ≡ endedOf «window_length» joining self ⌝ }

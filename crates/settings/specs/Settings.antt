@@ -102,7 +102,7 @@ scaledOf s = record {
   swell = record { begins = s .swell * s .declared; ends = (s .swell - s .hysteresis) * s .declared };
   interruption = record { begins = s .interruption * s .declared; ends = (s .interruption + s .hysteresis) * s .declared };
   limit = s .limit * windowLength s * s .declared / 10000;
-  reduced = (s .limit - s .reduction) * windowLength s * s .declared / 10000;
+  reduction = s .limit * windowLength s * s .declared / 10000 - (s .limit - s .reduction) * windowLength s * s .declared / 10000;
 }
 
 -- what the refusals 2 to 6 leave

@@ -37,14 +37,15 @@ pub struct Threshold {
     pub ends: u64,
 }
 
-// The levels, times the declared voltage: 10,000 times a value is compared with them. The two limits of a rapid voltage change: the greatest difference
-// of a value times the window length from the window's sum that is still calm.
+// The levels, times the declared voltage: 10,000 times a value is compared with them. The limit of a rapid voltage change: the greatest difference of a value
+// times the window length from the window's sum that is still calm; and what is taken off it in a change. As a difference, since the compiler would else work
+// the limit in force out again at every value.
 pub struct Scaled {
     pub dip: Threshold,
     pub swell: Threshold,
     pub interruption: Threshold,
     pub limit: u64,
-    pub reduced: u64,
+    pub reduction: u64,
 }
 
 impl Settings {
@@ -123,12 +124,13 @@ impl Settings {
         requires { ⌜ ValidSettings self ⌝ }
         ensures { λ r. ⌜ r ≡ scaledOf self ⌝ }
     {
+        let limit = self.scaled_limit(self.limit);
         Scaled {
             dip: self.threshold(self.dip, self.dip + self.hysteresis),
             swell: self.threshold(self.swell, self.swell - self.hysteresis),
             interruption: self.threshold(self.interruption, self.interruption + self.hysteresis),
-            limit: self.scaled_limit(self.limit),
-            reduced: self.scaled_limit(self.limit - self.reduction),
+            limit,
+            reduction: numbers::minus(limit, self.scaled_limit(self.limit - self.reduction)),
         }
     }
 

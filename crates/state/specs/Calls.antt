@@ -14,8 +14,8 @@ use Rattle.state.specs.Step.{machine}
 abbrev pub outcomeOf : List ℕ → Run State → Outcome State
 outcomeOf lent r = record {
   after = r .after;
-  told = record { taken = r .taken; written = length (r .events); why = r .why };
-  bytes = over (recordBytes (r .events)) lent;
+  told = record { taken = r .taken; written = length (r .records); why = r .why };
+  bytes = over (recordBytes (r .records)) lent;
 }
 
 unfoldable pub fedWith : State → List ℤ → List ℕ → Outcome State

@@ -11,7 +11,7 @@ use lib.IntN.{ℤ}
 use borrow.Author.Tests.{ne-eqb}
 use borrow.Rule.Slice.PartMut.{putMid, post-is}
 use Rattle.numbers.specs.Notation.{_≡ᵇ_, if_then_else_}
-use Rattle.reading.specs.declared.Event.{Event}
+use Rattle.reading.specs.declared.Record.{Record}
 use Rattle.reading.specs.declared.Told.{Told}
 use Rattle.reading.specs.Records.{recordBytes}
 use Rattle.reading.specs.Calls.{Outcome}
@@ -36,13 +36,13 @@ back-behind k out part h =
 
 module _ (st₀ : State) (block : List ℤ) (lent : List ℕ) where
   pub record Progress (st : State) (at written : ℕ) (out : List ℕ) : Type 0 where
-    pub events : List Event
+    pub records : List Record
     pub valid : ValidState st
     pub at-in : at ≤ length block
     pub fits : written ≤ room lent
-    pub fed : fedBy machine st₀ block (room lent) ≡ joined at events (fedBy machine st (drop at block) (room lent - written))
-    pub count : written ≡ length events
-    pub bytes : out ≡ over (recordBytes events) lent
+    pub fed : fedBy machine st₀ block (room lent) ≡ joined at records (fedBy machine st (drop at block) (room lent - written))
+    pub count : written ≡ length records
+    pub bytes : out ≡ over (recordBytes records) lent
 
 pub progress-none : (st : State) (block : List ℤ) (lent : List ℕ) → ValidState st → Progress st block lent st 0 0 lent
 progress-none st block lent ok =
@@ -50,50 +50,50 @@ progress-none st block lent ok =
     let r : room lent ≡ room lent - 0 = omega arith in
     let f : Run State = fedBy machine st block (room lent - 0) in
     record {
-      events = [];
+      records = [];
       valid = ok;
       at-in = omega arith;
       fits = omega arith;
-      fed = ap (fedBy machine st block) r ∙ (λ i. record { after = f .after; taken = c (f .taken) i; events = f .events; why = f .why });
+      fed = ap (fedBy machine st block) r ∙ (λ i. record { after = f .after; taken = c (f .taken) i; records = f .records; why = f .why });
       count = refl;
       bytes = refl;
     }
 
 module _ {st₀ : State} {block : List ℤ} {lent : List ℕ} {st : State} {at written : ℕ} {out : List ℕ} (so-far : Progress st₀ block lent st at written out) where
-  -- n samples more, with the events es, and then the rest
-  pub progress-more : (n : ℕ) (es : List Event) (st₁ : State) (out₁ : List ℕ) → at + n ≤ length block → length es ≤ room lent - written → ValidState st₁ →
+  -- n samples more, with the records es, and then the rest
+  pub progress-more : (n : ℕ) (es : List Record) (st₁ : State) (out₁ : List ℕ) → at + n ≤ length block → length es ≤ room lent - written → ValidState st₁ →
       fedBy machine st (drop at block) (room lent - written) ≡ joined n es (fedBy machine st₁ (drop n (drop at block)) (room lent - written - length es)) →
       out₁ ≡ take (recordLength * written) out ++ over (recordBytes es) (drop (recordLength * written) out) → Progress st₀ block lent st₁ (at + n) (written + length es) out₁
   progress-more n es st₁ out₁ inside few ok step bytes-are =
-      let c : written ≡ length (so-far .events) = so-far .count in
+      let c : written ≡ length (so-far .records) = so-far .count in
       let f : written ≤ room lent = so-far .fits in
       let later : room lent - written - length es ≡ room lent - (written + length es) = omega arith in
       record {
-        events = so-far .events ++ es;
+        records = so-far .records ++ es;
         valid = ok;
         at-in = inside;
         fits = omega arith;
         fed =
             so-far .fed
-            ∙ ap (joined at (so-far .events)) step
-            ∙ joined-joined machine at n (so-far .events) es (fedBy machine st₁ (drop n (drop at block)) (room lent - written - length es))
-            ∙ (λ i. joined (at + n) (so-far .events ++ es) (fedBy machine st₁ (drop-drop n at block i) (later i)));
-        count = omega (arith, length-append (so-far .events) es);
-        bytes = bytes-are ∙ placed-records (recordLength * written) (so-far .events) es lent out (omega arith) (so-far .bytes);
+            ∙ ap (joined at (so-far .records)) step
+            ∙ joined-joined machine at n (so-far .records) es (fedBy machine st₁ (drop n (drop at block)) (room lent - written - length es))
+            ∙ (λ i. joined (at + n) (so-far .records ++ es) (fedBy machine st₁ (drop-drop n at block i) (later i)));
+        count = omega (arith, length-append (so-far .records) es);
+        bytes = bytes-are ∙ placed-records (recordLength * written) (so-far .records) es lent out (omega arith) (so-far .bytes);
       }
 
   -- where it ends: what the rest gives is all
   pub progress-last : (r : Run State) (out₁ : List ℕ) → fedBy machine st (drop at block) (room lent - written) ≡ r →
-      out₁ ≡ take (recordLength * written) out ++ over (recordBytes (r .events)) (drop (recordLength * written) out) →
-      record { after = r .after; told = record { taken = at + r .taken; written = written + length (r .events); why = r .why }; bytes = out₁ } ≡ fedWith st₀ block lent
+      out₁ ≡ take (recordLength * written) out ++ over (recordBytes (r .records)) (drop (recordLength * written) out) →
+      record { after = r .after; told = record { taken = at + r .taken; written = written + length (r .records); why = r .why }; bytes = out₁ } ≡ fedWith st₀ block lent
   unfolding fedWith
   progress-last r out₁ last bytes-are =
-      let c : written ≡ length (so-far .events) = so-far .count in
-      let n : written + length (r .events) ≡ length (so-far .events ++ r .events) = omega (arith, length-append (so-far .events) (r .events)) in
-      let b : out₁ ≡ over (recordBytes (so-far .events ++ r .events)) lent =
-      bytes-are ∙ placed-records (recordLength * written) (so-far .events) (r .events) lent out (omega arith) (so-far .bytes) in
+      let c : written ≡ length (so-far .records) = so-far .count in
+      let n : written + length (r .records) ≡ length (so-far .records ++ r .records) = omega (arith, length-append (so-far .records) (r .records)) in
+      let b : out₁ ≡ over (recordBytes (so-far .records ++ r .records)) lent =
+      bytes-are ∙ placed-records (recordLength * written) (so-far .records) (r .records) lent out (omega arith) (so-far .bytes) in
       (λ i. record { after = r .after; told = record { taken = at + r .taken; written = n i; why = r .why }; bytes = b i })
-      ∙ sym (ap (outcomeOf lent) (so-far .fed ∙ ap (joined at (so-far .events)) last))
+      ∙ sym (ap (outcomeOf lent) (so-far .fed ∙ ap (joined at (so-far .records)) last))
 
   -- a chunk of the block, fed with the buffer behind the records written so far
   module _ (n : ℕ) (inside : at + n ≤ length block) (long : length out ≡ length lent) {end : State} {told : Told} {part : List ℕ} (ok : ValidState end)
@@ -119,10 +119,10 @@ module _ {st₀ : State} {block : List ℤ} {lent : List ℕ} {st : State} {at w
         let room-is : room (drop (recordLength * written) out) ≡ left = omega (arith, length-drop (recordLength * written) out, so-far .fits) in
         is ∙ ap (λ (k : ℕ). outcomeOf (drop (recordLength * written) out) (fedBy machine st chunk k)) room-is
 
-    told-is : told ≡ record { taken = run .taken; written = length (run .events); why = run .why }
+    told-is : told ≡ record { taken = run .taken; written = length (run .records); why = run .why }
     told-is = ap (λ (o : Outcome State). o .told) run-is
 
-    bytes-are : (out₁ : List ℕ) → out₁ ≡ take (recordLength * written) out ++ part → out₁ ≡ take (recordLength * written) out ++ over (recordBytes (run .events)) (drop (recordLength * written) out)
+    bytes-are : (out₁ : List ℕ) → out₁ ≡ take (recordLength * written) out ++ part → out₁ ≡ take (recordLength * written) out ++ over (recordBytes (run .records)) (drop (recordLength * written) out)
     bytes-are out₁ e = e ∙ ap (λ (o : Outcome State). take (recordLength * written) out ++ o .bytes) run-is
 
     both : fedBy machine st (drop at block) left ≡ andThen machine run (drop n (drop at block)) left
@@ -142,12 +142,12 @@ module _ {st₀ : State} {block : List ℤ} {lent : List ℕ} {st : State} {at w
         let count : run .taken ≡ n = bounded .whole whole ∙ chunk-long in
         let rest : List ℤ = drop n (drop at block) in
         let after-is : run .after ≡ end = sym (ap (λ (o : Outcome State). o .after) run-is) in
-        let step : fedBy machine st (drop at block) left ≡ joined n (run .events) (fedBy machine end rest (left - length (run .events))) =
+        let step : fedBy machine st (drop at block) left ≡ joined n (run .records) (fedBy machine end rest (left - length (run .records))) =
         both
-        ∙ ap (λ (y : ℕ). if y ≡ᵇ 0 then joined (run .taken) (run .events) (fedBy machine (run .after) rest (left - length (run .events))) else run) whole
-        ∙ (λ i. joined (count i) (run .events) (fedBy machine (after-is i) rest (left - length (run .events)))) in
+        ∙ ap (λ (y : ℕ). if y ≡ᵇ 0 then joined (run .taken) (run .records) (fedBy machine (run .after) rest (left - length (run .records))) else run) whole
+        ∙ (λ i. joined (count i) (run .records) (fedBy machine (after-is i) rest (left - length (run .records)))) in
         subst (λ (k : ℕ). Progress st₀ block lent end (at + n) (written + k) out₁) (sym (ap (λ (t : Told). t .written) told-is))
-        (progress-more n (run .events) end out₁ inside (bounded .fits) ok step (bytes-are out₁ e))
+        (progress-more n (run .records) end out₁ inside (bounded .fits) ok step (bytes-are out₁ e))
 
     -- it is not, and so is the end
     pub chunk-last : 0 < told .why → (out₁ : List ℕ) → out₁ ≡ take (recordLength * written) out ++ part →
@@ -161,5 +161,5 @@ module _ {st₀ : State} {block : List ℤ} {lent : List ℕ} {st : State} {at w
           bytes = out₁;
         })
         ∙ progress-last run out₁
-        (both ∙ ap (λ (b : Bool). if b then joined (run .taken) (run .events) (fedBy machine (run .after) rest (left - length (run .events))) else run) stops)
+        (both ∙ ap (λ (b : Bool). if b then joined (run .taken) (run .records) (fedBy machine (run .after) rest (left - length (run .records))) else run) stops)
         (bytes-are out₁ e)

@@ -9,9 +9,10 @@ use Rattle.settings.specs.declared.Settings.{Settings}
 use Rattle.settings.specs.Settings.{windowLength, ValidSettings}
 use Rattle.reading.specs.declared.Readings.{Readings}
 use Rattle.reading.specs.Values.{values}
+use Rattle.reading.specs.Clipping.{marksOf}
 use Rattle.reading.specs.Changes.{windowSum}
 use Rattle.reading.specs.Feed.{lastValue}
-use Rattle.reading.specs.Restore.{wholeRule}
+use Rattle.reading.specs.Restore.{valueMost, wholeRule}
 use Rattle.reading.specs.Layout.{places}
 use Rattle.rms.specs.declared.Gatherer.{Gatherer}
 use Rattle.rms.specs.Gather.{noSample, gathererOf, ValidGatherer}
@@ -24,15 +25,18 @@ use Rattle.state.specs.declared.State.{State}
 
 -- a fresh logger: it has taken no sample
 unfoldable pub fresh : Settings → State
-fresh s = record { settings = s; gatherer = noSample; detector = noValue; window = replicate places 0 }
+fresh s = record { settings = s; gatherer = noSample; detector = noValue; window = replicate places 0; marks = replicate places 0 }
 
 -- a state in the parts that the code keeps it in
-abbrev pub stateWith : Settings → Gatherer → Detector → List ℕ → State
-stateWith s g d w = record { settings = s; gatherer = g; detector = d; window = w }
+abbrev pub stateWith : Settings → Gatherer → Detector → List ℕ → List ℕ → State
+stateWith s g d w ms = record { settings = s; gatherer = g; detector = d; window = w; marks = ms }
 
--- the state that a recording leaves
+-- the state that a history and its marks leave, whatever the gatherer; and the one that a recording leaves
+abbrev pub stateOn : Settings → Gatherer → List ℕ → List ℕ → State
+stateOn s g hist ms = stateWith s g (detectorOf s hist ms) (windowOf (windowLength s) hist) (windowOf (windowLength s) ms)
+
 abbrev pub stateOf : Settings → List ℤ → State
-stateOf s rec = stateWith s (gathererOf s rec) (detectorOf s (values s rec)) (windowOf (windowLength s) (values s rec))
+stateOf s rec = stateOn s (gathererOf s rec) (values s rec) (marksOf s rec)
 
 -- look: the phase's number is the first of its row
 abbrev pub phaseNumberOf : Phase → ℕ
@@ -57,6 +61,7 @@ pub record ValidState (st : State) : Type 0 where
   pub settings-valid : ValidSettings (st .settings)
   pub gatherer-valid : ValidGatherer (st .settings .samples) (st .gatherer)
   pub detector-valid : ValidDetector (windowLength (st .settings)) (st .detector)
-  pub window-valid : ValidWindow (windowLength (st .settings)) (st .detector .count) (st .window)
+  pub window-valid : ValidWindow valueMost (windowLength (st .settings)) (st .detector .count) (st .window)
+  pub marks-valid : ValidWindow 1 (windowLength (st .settings)) (st .detector .count) (st .marks)
   pub count-le : st .detector .count ≤ lastValue
   pub none-whole : Holds (wholeRule (flag (st .gatherer .whole)) (st .detector .count))

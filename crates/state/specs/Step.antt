@@ -4,9 +4,10 @@ use mathlib.Core.List.{List, [], _∷_, _++_}
 use Prim.Native.Nat.{ℕ, _+_}
 use lib.ListN.{length}
 use lib.IntN.{ℤ}
-use Rattle.numbers.specs.Notation.{_<ᵇ_, if_then_else_}
+use Rattle.numbers.specs.Notation.{_<ᵇ_, if_then_else_, flag}
 use Rattle.settings.specs.Settings.{windowLength}
-use Rattle.reading.specs.declared.Event.{Event}
+use Rattle.reading.specs.declared.Record.{Record}
+use Rattle.rms.specs.declared.Marked.{Marked}
 use Rattle.reading.specs.Feed.{lastValue}
 use Rattle.rms.specs.declared.Part.{Part}
 use Rattle.rms.specs.declared.Gatherer.{Gatherer}
@@ -17,36 +18,38 @@ use Rattle.greedy.specs.Greedy.{Machine}
 use Rattle.state.specs.declared.State.{State}
 use Rattle.state.specs.State.{stateWith}
 
--- one value more; values, newest first; the events due at them
-abbrev pub withValue : ℕ → State → State
-withValue r st =
-    stateWith (st .settings) (st .gatherer) (detectorAfter (st .settings) r (st .detector) (st .window))
-    (pushed (windowLength (st .settings)) (st .detector .count) (st .window) r)
+-- one value more; values, newest first; the records due at them
+abbrev pub withValue : Marked → State → State
+withValue x st =
+    let n = windowLength (st .settings) in
+    let v = st .detector .count in
+    stateWith (st .settings) (st .gatherer) (detectorAfter (st .settings) x (st .detector) (st .window) (st .marks))
+    (pushed n v (st .window) (x .value)) (pushed n v (st .marks) (flag (x .clipped)))
 
-abbrev pub withValues : List ℕ → State → State
+abbrev pub withValues : List Marked → State → State
 withValues [] st = st
-withValues (r ∷ rs) st = withValue r (withValues rs st)
+withValues (x ∷ xs) st = withValue x (withValues xs st)
 
-abbrev pub dueOn : List ℕ → State → List Event
+abbrev pub dueOn : List Marked → State → List Record
 dueOn [] st = []
-dueOn (r ∷ rs) st = dueOn rs st ++ dueAt (st .settings) r (withValues rs st .detector) (withValues rs st .window)
+dueOn (x ∷ xs) st = let before = withValues xs st in dueOn xs st ++ dueAt (st .settings) x (before .detector) (before .window) (before .marks)
 
 -- another gatherer
 abbrev pub withGatherer : State → Gatherer → State
-withGatherer st g = stateWith (st .settings) g (st .detector) (st .window)
+withGatherer st g = stateWith (st .settings) g (st .detector) (st .window) (st .marks)
 
 -- a part more that leaves the half-cycle in progress
 abbrev pub partJoined : State → Part → State
 partJoined st p = withGatherer st (withPart (st .gatherer) p)
 
--- a part that ends it: the value that comes out, if one does; whether that passes V's end; the events due at it; the state after it
-abbrev pub valueOut : State → Part → List ℕ
+-- a part that ends it: the value that comes out, if one does; whether that passes V's end; the records due at it; the state after it
+abbrev pub valueOut : State → Part → List Marked
 valueOut st p = valueFrom (st .settings .samples) (st .gatherer) p
 
 unfoldable pub passesEnd : State → Part → Bool
 passesEnd st p = lastValue <ᵇ length (valueOut st p) + st .detector .count
 
-unfoldable pub halfDue : State → Part → List Event
+unfoldable pub halfDue : State → Part → List Record
 halfDue st p = dueOn (valueOut st p) st
 
 unfoldable pub halfJoined : State → Part → State

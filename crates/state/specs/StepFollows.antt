@@ -2,20 +2,22 @@
 -- the reading has due; and its readings are the reading's.
 use mathlib.Core.Path.{_≡_, refl, sym, _∙_, ap, ap₂}
 use mathlib.Core.Bool.{Bool, true, false, not}
-use mathlib.Core.List.{List, [], _∷_, _++_}
+use mathlib.Core.List.{List, [], _∷_, _++_, map}
 use Prim.Native.Nat.{ℕ, zero, suc, _+_, _-_, min, _≤_, _<_}
 use native.Mathlib.Omega.{arith}
 use native.Mathlib.Nat.{add-suc, div-le-self}
-use lib.ListN.{length, drop, getD, length-append}
+use lib.ListN.{length, drop, getD}
 use lib.IntN.{ℤ}
 use borrow.Author.Tests.{ltb-true, ltb-false, le-ltb, lt-leb, le-leb}
-use Rattle.numbers.specs.Notation.{_≤ᵇ_, _<ᵇ_, if_then_else_}
+use Rattle.numbers.specs.Notation.{_≤ᵇ_, _<ᵇ_, if_then_else_, flag}
 use Rattle.settings.specs.declared.Settings.{Settings}
 use Rattle.settings.specs.Settings.{windowLength}
 use Rattle.settings.specs.SettingsLaws.{windowLength-some, windowLength-most}
 use Rattle.reading.specs.declared.Kind.the-variants.{Dip, Swell, Interruption}
-use Rattle.reading.specs.declared.Event.{Event}
+use Rattle.reading.specs.declared.Record.{Record}
+use Rattle.rms.specs.declared.Marked.{Marked}
 use Rattle.reading.specs.Values.{halves, valueCount, history, values}
+use Rattle.reading.specs.Clipping.{marks, marksOf, recordOf}
 use Rattle.reading.specs.Thresholds.{standsSince}
 use Rattle.reading.specs.Changes.{windowSum, Signal, signal}
 use Rattle.reading.specs.Changes.Signal.{filling, unsettled, steady, changing}
@@ -23,51 +25,77 @@ use Rattle.reading.specs.Records.{due}
 use Rattle.reading.specs.Feed.{lastValue, dueAfter, completed, withinEnd}
 use Rattle.reading.specs.Image.{phaseNumber}
 use Rattle.reading.specs.Engineer.{readings}
-use Rattle.reading_laws.specs.RecordingsLaws.{length-history, valueCount-grow, history-grow}
+use Rattle.reading_laws.specs.RecordingsLaws.{length-history, length-marks, valueCount-grow, history-grow, marks-grow}
 use Rattle.rms.specs.declared.Part.{Part}
 use Rattle.rms.specs.declared.Gatherer.{Gatherer}
 use Rattle.rms.specs.Gather.{partOf, withPart, withHalf, valueFrom, gathererOf}
-use Rattle.rms.specs.GatherFollows.{gatherer-follows, values-follow, noSample-is}
-use Rattle.window.specs.Window.{windowOf}
+use Rattle.rms.specs.GatherFollows.{gatherer-follows, values-follow, marks-follow, noSample-is}
+use Rattle.window.specs.Window.{pushed, windowOf}
 use Rattle.window.specs.WindowFollows.{windowOf-none, window-follows, windowSum-windowOf, newest-is}
 use Rattle.rvc.specs.Phase.{phaseOn}
-use Rattle.detection.specs.Detection.{noValue, dueAt, detectorOf}
+use Rattle.detection.specs.Detection.{noValue, dueAt}
 use Rattle.detection.specs.DetectionFollows.{detector-follows, due-follows}
 use Rattle.greedy.specs.GreedyFollows.{StepsFollow}
 use Rattle.state.specs.declared.State.{State}
-use Rattle.state.specs.State.{fresh, stateWith, stateOf, phaseNumberOf, readingsOf}
+use Rattle.state.specs.State.{fresh, stateWith, stateOn, stateOf, phaseNumberOf, readingsOf}
 use Rattle.state.specs.Step.{withValue, withValues, dueOn, withGatherer, partJoined, passesEnd, halfDue, halfJoined, endsHalf, machine}
 
--- the records due at new values, newest first, after a history
-abbrev dueAll : Settings → List ℕ → List ℕ → List Event
-dueAll s [] hist = []
-dueAll s (r ∷ rs) hist = dueAll s rs hist ++ due s (r ∷ (rs ++ hist))
+-- new values after a history, newest first, and their marks
+abbrev sizes : List Marked → List ℕ → List ℕ
+sizes xs hist = map (λ (x : Marked). x .value) xs ++ hist
+
+abbrev flags : List Marked → List ℕ → List ℕ
+flags xs ms = map (λ (x : Marked). flag (x .clipped)) xs ++ ms
+
+length-sizes : (xs : List Marked) (hist : List ℕ) → length (sizes xs hist) ≡ length xs + length hist
+length-sizes [] hist = omega arith
+length-sizes (x ∷ xs) hist = omega (arith, length-sizes xs hist)
+
+length-flags : (xs : List Marked) (ms : List ℕ) → length (flags xs ms) ≡ length xs + length ms
+length-flags [] ms = omega arith
+length-flags (x ∷ xs) ms = omega (arith, length-flags xs ms)
+
+-- the records due at them
+abbrev dueAll : Settings → List Marked → List ℕ → List ℕ → List Record
+dueAll s [] hist ms = []
+dueAll s (x ∷ xs) hist ms = dueAll s xs hist ms ++ map (recordOf (flags (x ∷ xs) ms)) (due s (sizes (x ∷ xs) hist))
 
 module _ (s : Settings) where
-  due-all : (rec : List ℤ) (v c : ℕ) (rs : List ℕ) → history s rec (v + c) ≡ rs ++ history s rec v → dueAfter s rec v c ≡ dueAll s rs (history s rec v)
-  due-all rec v zero [] e = refl
-  due-all rec v zero (r ∷ rs) e = absurd (omega (arith, ap length e, length-history s rec (v + 0), length-history s rec v, length-append rs (history s rec v)))
-  due-all rec v (suc c) [] e = absurd (omega (arith, ap length e, length-history s rec (v + suc c), length-history s rec v))
-  due-all rec v (suc c) (r ∷ rs) e =
-      let t : history s rec (v + c) ≡ rs ++ history s rec v = ap (drop 1) (ap (history s rec) (sym (add-suc v c)) ∙ e) in
-      ap₂ _++_ (due-all rec v c rs t) (ap (due s) e)
+  due-all : (rec : List ℤ) (v c : ℕ) (xs : List Marked) → history s rec (v + c) ≡ sizes xs (history s rec v) → marks s rec (v + c) ≡ flags xs (marks s rec v)
+      → dueAfter s rec v c ≡ dueAll s xs (history s rec v) (marks s rec v)
+  due-all rec v zero [] e f = refl
+  due-all rec v zero (x ∷ xs) e f = absurd (omega (arith, ap length e, length-history s rec (v + 0), length-history s rec v, length-sizes xs (history s rec v)))
+  due-all rec v (suc c) [] e f = absurd (omega (arith, ap length e, length-history s rec (v + suc c), length-history s rec v))
+  due-all rec v (suc c) (x ∷ xs) e f =
+      let t : history s rec (v + c) ≡ sizes xs (history s rec v) = ap (drop 1) (ap (history s rec) (sym (add-suc v c)) ∙ e) in
+      let u : marks s rec (v + c) ≡ flags xs (marks s rec v) = ap (drop 1) (ap (marks s rec) (sym (add-suc v c)) ∙ f) in
+      ap₂ _++_ (due-all rec v c xs t u) (λ i. map (recordOf (f i)) (due s (e i)))
 
-  -- the state that a history leaves, whatever the gatherer
-  module _ (g : Gatherer) where
-    abbrev stateOn : List ℕ → State
-    stateOn hist = stateWith s g (detectorOf s hist) (windowOf (windowLength s) hist)
+  -- the state that a history and its marks leave, whatever the gatherer
+  module _ (g : Gatherer) (hist ms : List ℕ) (beside : length ms ≡ length hist) where
+    beside-on : (xs : List Marked) → length (flags xs ms) ≡ length (sizes xs hist)
+    beside-on xs = omega (arith, length-flags xs ms, length-sizes xs hist)
 
-    withValues-follows : (rs hist : List ℕ) → withValues rs (stateOn hist) ≡ stateOn (rs ++ hist)
-    withValues-follows [] hist = refl
-    withValues-follows (r ∷ rs) hist =
-        let window = window-follows (windowLength s) r (rs ++ hist) (windowLength-some s) (windowLength-most s) in
-        ap (withValue r) (withValues-follows rs hist) ∙ (λ i. stateWith s g (detector-follows s r (rs ++ hist) i) (window i))
+    withValues-follows : (xs : List Marked) → withValues xs (stateOn s g hist ms) ≡ stateOn s g (sizes xs hist) (flags xs ms)
+    withValues-follows [] = refl
+    withValues-follows (x ∷ xs) =
+        let n = windowLength s in
+        let some = windowLength-some s in
+        let most = windowLength-most s in
+        let before = sizes xs hist in
+        let marked = flags xs ms in
+        let window = window-follows n (x .value) before some most in
+        let marks-on : pushed n (length before) (windowOf n marked) (flag (x .clipped)) ≡ windowOf n (flag (x .clipped) ∷ marked) =
+        ap (λ (k : ℕ). pushed n k (windowOf n marked) (flag (x .clipped))) (sym (beside-on xs)) ∙ window-follows n (flag (x .clipped)) marked some most in
+        ap (withValue x) (withValues-follows xs)
+        ∙ (λ i. stateWith s g (detector-follows s (x .value) before (x .clipped) marked (beside-on xs) i) (window i) (marks-on i))
 
-    dueOn-follows : (rs hist : List ℕ) → dueOn rs (stateOn hist) ≡ dueAll s rs hist
-    dueOn-follows [] hist = refl
-    dueOn-follows (r ∷ rs) hist =
-        ap₂ _++_ (dueOn-follows rs hist)
-        (ap (λ (st : State). dueAt s r (st .detector) (st .window)) (withValues-follows rs hist) ∙ due-follows s r (rs ++ hist))
+    dueOn-follows : (xs : List Marked) → dueOn xs (stateOn s g hist ms) ≡ dueAll s xs hist ms
+    dueOn-follows [] = refl
+    dueOn-follows (x ∷ xs) =
+        ap₂ _++_ (dueOn-follows xs)
+        (ap (λ (st : State). dueAt s x (st .detector) (st .window) (st .marks)) (withValues-follows xs)
+        ∙ due-follows s (x .value) (sizes xs hist) (x .clipped) (flags xs ms) (beside-on xs))
 
 past-not : (a b : ℕ) → (a <ᵇ b) ≡ not (b ≤ᵇ a)
 past-not a b = go (a <ᵇ b) refl
@@ -91,12 +119,14 @@ module _ (s : Settings) (some : 0 < s .samples) (rec : List ℤ) (x : ℤ) where
   longer = rec ++ (x ∷ [])
 
   -- the values that come out with it
-  abbrev outs : List ℕ
+  abbrev outs : List Marked
   outs = if endsHalf (stateOf s rec) x then valueFrom m g p else []
 
+  beside : length (marksOf s rec) ≡ length (values s rec)
+  beside = omega (arith, length-marks s rec (valueCount s rec), length-history s rec (valueCount s rec))
+
   count-is : length outs + length (values s rec) ≡ valueCount s longer
-  count-is =
-      omega (arith, ap length (values-follow s some rec x), length-append outs (values s rec), length-history s longer (valueCount s longer))
+  count-is = omega (arith, ap length (values-follow s some rec x), length-sizes outs (values s rec), length-history s longer (valueCount s longer))
 
   pub atEnd-of : valueCount s rec ≤ lastValue → machine .atEnd (stateOf s rec) x ≡ not (withinEnd s rec (x ∷ []) 1)
   unfolding passesEnd
@@ -108,7 +138,7 @@ module _ (s : Settings) (some : 0 < s .samples) (rec : List ℤ) (x : ℤ) where
 
   pub due-of : machine .dueWith (stateOf s rec) x ≡ completed s rec (x ∷ []) 1
   unfolding halfDue
-  due-of = go (endsHalf (stateOf s rec) x) ∙ (dueOn-follows s g outs (values s rec) ∙ sym completed-is)
+  due-of = go (endsHalf (stateOf s rec) x) ∙ (dueOn-follows s g (values s rec) (marksOf s rec) beside outs ∙ sym completed-is)
     where
       go : (b : Bool) → (if b then halfDue (stateOf s rec) p else []) ≡ dueOn (if b then valueFrom m g p else []) (stateOf s rec)
       go true = refl
@@ -123,20 +153,26 @@ module _ (s : Settings) (some : 0 < s .samples) (rec : List ℤ) (x : ℤ) where
       same : history s longer v ≡ history s rec v
       same = history-grow s rec (x ∷ []) some v (omega arith)
 
+      marked : marks s longer v ≡ marks s rec v
+      marked = marks-grow s rec (x ∷ []) some v (omega arith)
+
       all : v + (w - v) ≡ w
       all = omega (arith, valueCount-grow s rec (x ∷ []) some)
 
-      completed-is : completed s rec (x ∷ []) 1 ≡ dueAll s outs (values s rec)
+      completed-is : completed s rec (x ∷ []) 1 ≡ dueAll s outs (values s rec) (marksOf s rec)
       completed-is =
-          due-all s longer v (w - v) outs (ap (history s longer) all ∙ (values-follow s some rec x ∙ ap (λ (hist : List ℕ). outs ++ hist) (sym same)))
-          ∙ ap (dueAll s outs) same
+          due-all s longer v (w - v) outs
+          (ap (history s longer) all ∙ (values-follow s some rec x ∙ ap (sizes outs) (sym same)))
+          (ap (marks s longer) all ∙ (marks-follow s some rec x ∙ ap (flags outs) (sym marked)))
+          ∙ (λ i. dueAll s outs (same i) (marked i))
 
   pub next-of : machine .next (stateOf s rec) x ≡ stateOf s longer
   unfolding halfJoined
   next-of =
       go (endsHalf (stateOf s rec) x)
-      ∙ ((λ i. withValues outs (stateOn s (gatherer-follows s some rec x i) (values s rec)))
-      ∙ (withValues-follows s (gathererOf s longer) outs (values s rec) ∙ ap (stateOn s (gathererOf s longer)) (sym (values-follow s some rec x))))
+      ∙ ((λ i. withValues outs (stateOn s (gatherer-follows s some rec x i) (values s rec) (marksOf s rec)))
+      ∙ (withValues-follows s (gathererOf s longer) (values s rec) (marksOf s rec) beside outs
+      ∙ (λ i. stateOn s (gathererOf s longer) (sym (values-follow s some rec x) i) (sym (marks-follow s some rec x) i))))
     where
       go : (b : Bool) → (if b then halfJoined (stateOf s rec) p else partJoined (stateOf s rec) p)
           ≡ withValues (if b then valueFrom m g p else []) (withGatherer (stateOf s rec) (if b then withHalf g p else withPart g p))
@@ -154,7 +190,8 @@ pub fresh-is : (s : Settings) → 0 < s .samples → fresh s ≡ stateOf s []
 unfolding fresh
 fresh-is s some =
     let v : valueCount s [] ≡ 0 = omega (arith, halves-none s) in
-    (λ i. stateWith s (noSample-is s some i) noValue (sym (windowOf-none (windowLength s)) i)) ∙ ap (stateOn s (gathererOf s [])) (sym (ap (history s []) v))
+    let none = windowOf-none (windowLength s) in
+    (λ i. stateWith s (noSample-is s some i) noValue (sym none i) (sym none i)) ∙ (λ i. stateOn s (gathererOf s []) (history s [] (sym v i)) (marks s [] (sym v i)))
 
 -- look
 newest : (n : ℕ) (hist : List ℕ) → 0 < n → getD (windowOf n hist) (min (length hist) n - 1) 0 ≡ getD hist 0 0
@@ -183,7 +220,7 @@ readings-of s rec = λ i. record {
     sum-is true e = refl
     sum-is false e = windowSum-windowOf s hist (ltb-false (length hist) n e)
 
-    phase-is : (q : Signal) → phaseNumberOf (phaseOn s hist q) ≡ phaseNumber q
+    phase-is : (q : Signal) → phaseNumberOf (phaseOn s hist (marksOf s rec) q) ≡ phaseNumber q
     phase-is filling = refl
     phase-is unsettled = refl
     phase-is steady = refl

@@ -1,6 +1,6 @@
 -- The greedy feed of a block by its first half-cycle: not complete, taken, or not taken.
 use mathlib.Core.Path.{_≡_, refl, sym, _∙_, ap}
-use mathlib.Core.Bool.{Bool, true, false}
+use mathlib.Core.Bool.{Bool, true, false, or-false}
 use mathlib.Core.List.{List, [], _∷_, _++_}
 use Prim.Native.Nat.{ℕ, zero, suc, _+_, _-_, _≤_, _<_}
 use native.Mathlib.Omega.{arith}
@@ -9,7 +9,8 @@ use lib.Seq.{length-take-le}
 use lib.IntN.{ℤ}
 use borrow.Author.Tests.{le-ltb}
 use Rattle.numbers.specs.Notation.{_<ᵇ_, if_then_else_}
-use Rattle.reading.specs.declared.Event.{Event}
+use Rattle.reading.specs.declared.Record.{Record}
+use Rattle.rms.specs.declared.Marked.{Marked}
 use Rattle.reading.specs.Feed.{lastValue}
 use Rattle.rms.specs.declared.Part.{Part}
 use Rattle.rms.specs.declared.Gatherer.{Gatherer}
@@ -24,21 +25,22 @@ use Rattle.state.specs.declared.State.{State}
 use Rattle.state.specs.Step.{withValue, withValues, dueOn, withGatherer, partJoined, valueOut, passesEnd, halfDue, halfJoined, whyNot, endsHalf, machine}
 
 -- the values' steps do not look at the gatherer
-withValues-gatherer : (rs : List ℕ) (st : State) (g : Gatherer) → withValues rs (withGatherer st g) ≡ withGatherer (withValues rs st) g
+withValues-gatherer : (xs : List Marked) (st : State) (g : Gatherer) → withValues xs (withGatherer st g) ≡ withGatherer (withValues xs st) g
 withValues-gatherer [] st g = refl
-withValues-gatherer (r ∷ rs) st g = ap (withValue r) (withValues-gatherer rs st g)
+withValues-gatherer (x ∷ xs) st g = ap (withValue x) (withValues-gatherer xs st g)
 
-dueOn-gatherer : (rs : List ℕ) (st : State) (g : Gatherer) → dueOn rs (withGatherer st g) ≡ dueOn rs st
+dueOn-gatherer : (xs : List Marked) (st : State) (g : Gatherer) → dueOn xs (withGatherer st g) ≡ dueOn xs st
 dueOn-gatherer [] st g = refl
-dueOn-gatherer (r ∷ rs) st g =
-    λ i. dueOn-gatherer rs st g i ++ dueAt (st .settings) r (withValues-gatherer rs st g i .detector) (withValues-gatherer rs st g i .window)
+dueOn-gatherer (x ∷ xs) st g = λ i.
+    let before : State = withValues-gatherer xs st g i in
+    dueOn-gatherer xs st g i ++ dueAt (st .settings) x (before .detector) (before .window) (before .marks)
 
 abbrev cutOf : State → List ℤ → Share
 cutOf st b = cut (st .settings .samples) (st .gatherer) b
 
 -- a feed that ends with samples that leave the half-cycle in progress
 abbrev endsIn : State → List ℤ → ℕ → Run State
-endsIn st xs y = record { after = partJoined st (partOf xs); taken = length xs; events = []; why = y }
+endsIn st xs y = record { after = partJoined st (partOf xs); taken = length xs; records = []; why = y }
 
 -- a block whose first n samples end the half-cycle, by why they are not taken; a block by its cut
 abbrev byWhy : State → List ℤ → ℕ → ℕ → ℕ → Run State
@@ -51,7 +53,7 @@ byCut st b room c = if c .completes then byWhy st b room (c .count) (whyNot st (
 none-more : (st : State) (y : ℕ) → stopped st y ≡ endsIn st [] y
 none-more st y =
     let g = st .gatherer in
-    let e : g ≡ withPart g (partOf []) = same-gatherer (omega arith) (omega arith) refl refl in
+    let e : g ≡ withPart g (partOf []) = same-gatherer (omega arith) (omega arith) refl refl (sym (or-false (g .clipped))) refl in
     λ i. stopped (withGatherer st (e i)) y
 
 module _ (st : State) (x : ℤ) where
@@ -68,7 +70,7 @@ module _ (st : State) (x : ℤ) where
       fedBy-takes machine st x xs room (λ i. if e i then passesEnd st p else false)
       ((λ i. room <ᵇ length (if e i then halfDue st p else [])) ∙ le-ltb room 0 (omega arith))
       ∙ ((λ i.
-      let due : List Event = if e i then halfDue st p else [] in joined 1 due (fedBy machine (if e i then halfJoined st p else next) xs (room - length due)))
+      let due : List Record = if e i then halfDue st p else [] in joined 1 due (fedBy machine (if e i then halfJoined st p else next) xs (room - length due)))
       ∙ ap (λ (k : ℕ). joined 1 [] (fedBy machine next xs k)) r)
 
   -- one that ends it
@@ -112,7 +114,7 @@ module _ (st : State) (x : ℤ) where
     one-more : (y : ℕ) → joined 1 [] (endsIn next ys y) ≡ endsIn st (x ∷ ys) y
     one-more y =
         let c : 1 + length ys ≡ length (x ∷ ys) = omega arith in
-        λ i. record { after = withGatherer st (part-adds (st .gatherer) x ys i); taken = c i; events = []; why = y }
+        λ i. record { after = withGatherer st (part-adds (st .gatherer) x ys i); taken = c i; records = []; why = y }
 
   -- a block after the sample
   module _ (xs : List ℤ) (room : ℕ) where
@@ -124,7 +126,7 @@ module _ (st : State) (x : ℤ) where
         let r : Run State = fedBy machine (halfJoined st (partOf (x ∷ ys))) (drop (suc n) xs) (room - length due) in
         let c : 1 + (suc n + r .taken) ≡ suc (suc n) + r .taken = omega arith in
         (λ i. joined 1 [] (joined (suc n) (due-adds ys i) (fedBy machine (half-joins ys i) (drop (suc n) xs) (room - length (due-adds ys i)))))
-        ∙ (λ i. record { after = r .after; taken = c i; events = due ++ r .events; why = r .why })
+        ∙ (λ i. record { after = r .after; taken = c i; records = due ++ r .records; why = r .why })
     by-why (suc n) (suc y) h =
         let e : suc n - 1 ≡ n = omega arith in
         let f : suc n ≡ suc (suc n) - 1 = omega arith in
@@ -160,7 +162,7 @@ module _ (st : State) (b : List ℤ) (room : ℕ) (h : st .gatherer .count < st 
   fed-is : fedBy machine st b room ≡ byCut st b room c
   fed-is = rw is (feed-cut b st room h)
 
-  pub feed-rest : c .completes ≡ false → fedBy machine st b room ≡ record { after = partJoined st (partOf b); taken = length b; events = []; why = 0 }
+  pub feed-rest : c .completes ≡ false → fedBy machine st b room ≡ record { after = partJoined st (partOf b); taken = length b; records = []; why = 0 }
   feed-rest e = fed-is ∙ rw e
 
   module _ (ends : c .completes ≡ true) where
@@ -178,10 +180,10 @@ module _ (st : State) (b : List ℤ) (room : ℕ) (h : st .gatherer .count < st 
     feed-taken why = half-is ∙ ap (byWhy st b room n) why
 
     pub feed-stops : (y : ℕ) → y ≡ whyNot st half room → 0 < y
-        → fedBy machine st b room ≡ record { after = partJoined st (partOf (take (n - 1) b)); taken = n - 1; events = []; why = y }
+        → fedBy machine st b room ≡ record { after = partJoined st (partOf (take (n - 1) b)); taken = n - 1; records = []; why = y }
     feed-stops zero why some = absurd (omega arith)
     feed-stops (suc y) why some =
         let inside : n ≤ length b = rw is (cut-within (st .settings .samples) b (st .gatherer) h .inside) in
         let long = length-take-le (n - 1) b (omega arith) in
         half-is
-        ∙ (sym (ap (byWhy st b room n) why) ∙ (λ i. record { after = partJoined st (partOf (take (n - 1) b)); taken = long i; events = []; why = suc y }))
+        ∙ (sym (ap (byWhy st b room n) why) ∙ (λ i. record { after = partJoined st (partOf (take (n - 1) b)); taken = long i; records = []; why = suc y }))

@@ -1,6 +1,6 @@
 -- What holds of every state: parts keep it, and the state that a recording leaves and the fresh one have it. A part has at most four records due, and passes V's
 -- end only where V is there.
-use mathlib.Core.Path.{_≡_, refl, ap}
+use mathlib.Core.Path.{_≡_, refl, ap, subst}
 use mathlib.Core.Bool.{Bool, true, false}
 use mathlib.Core.List.{List, [], _∷_}
 use Prim.Native.Nat.{ℕ, zero, suc, _+_, _≤_, _<_}
@@ -9,20 +9,23 @@ use lib.ListN.{length}
 use lib.IntN.{ℤ}
 use borrow.Author.Tests.{ltb-false, le-ltb}
 use Rattle.numbers.specs.Notation.{_<ᵇ_, flag}
-use Rattle.numbers.specs.NotationLaws.{flag-none}
+use Rattle.numbers.specs.NotationLaws.{flag-most, flag-none}
 use Rattle.settings.specs.declared.Settings.{Settings}
 use Rattle.settings.specs.Settings.{windowLength, ValidSettings}
 use Rattle.settings.specs.SettingsLaws.{windowLength-some, windowLength-most}
 use Rattle.reading.specs.Values.{Samples, halves, valueCount, history, values}
+use Rattle.rms.specs.declared.Marked.{Marked}
+use Rattle.reading.specs.Clipping.{valueClipped, marks, marksOf}
+use Rattle.reading.specs.Restore.{valueMost}
 use Rattle.reading.specs.Feed.{lastValue}
-use Rattle.reading_laws.specs.RecordingsLaws.{length-history, value-le}
+use Rattle.reading_laws.specs.RecordingsLaws.{length-history, length-marks, value-le}
 use Rattle.rms.specs.declared.Part.{Part}
 use Rattle.rms.specs.declared.Gatherer.{Gatherer}
 use Rattle.rms.specs.Gather.{withHalf, ValidGatherer, PartFits}
 use Rattle.rms.specs.GatherLaws.{value-none, value-one, value-most, withPart-valid, withHalf-valid}
 use Rattle.rms.specs.GatherLaws as gatherer
 use Rattle.rms.specs.GatherFollows.{gathererOf-valid}
-use Rattle.window.specs.Window.{Small}
+use Rattle.window.specs.Window.{windowOf, Small, ValidWindow}
 use Rattle.window.specs.WindowValid.{pushed-valid, windowOf-valid}
 use Rattle.detection.specs.Detection.{detectorAfter}
 use Rattle.detection.specs.DetectionValid.{detectorAfter-valid, due-most, detectorOf-valid}
@@ -33,15 +36,18 @@ use Rattle.state.specs.Step.{withValue, withValues, dueOn, withGatherer,
 use Rattle.state.specs.StepFollows.{halves-none, fresh-is}
 
 -- a value into a state
-withValue-valid : (r : ℕ) (st : State) → r ≤ 524288 → st .gatherer .whole ≡ true → st .detector .count < lastValue → ValidState st → ValidState (withValue r st)
+withValue-valid : (x : Marked) (st : State) → x .value ≤ 524288 → st .gatherer .whole ≡ true → st .detector .count < lastValue → ValidState st → ValidState (withValue x st)
 unfolding detectorAfter
-withValue-valid r st small whole below ok =
+withValue-valid x st small whole below ok =
     let s = st .settings in
+    let n = windowLength s in
+    let v = st .detector .count in
     record {
       settings-valid = ok .settings-valid;
       gatherer-valid = ok .gatherer-valid;
-      detector-valid = detectorAfter-valid s r (st .detector) (st .window) small (ok .window-valid) (ok .detector-valid);
-      window-valid = pushed-valid (windowLength s) (st .detector .count) r (st .window) (windowLength-some s) (windowLength-most s) small (ok .window-valid);
+      detector-valid = detectorAfter-valid s x (st .detector) (st .window) (st .marks) small (ok .window-valid) (ok .detector-valid);
+      window-valid = pushed-valid n v (x .value) (st .window) (windowLength-some s) (windowLength-most s) small (ok .window-valid);
+      marks-valid = pushed-valid n v (flag (x .clipped)) (st .marks) (windowLength-some s) (windowLength-most s) (flag-most (x .clipped)) (ok .marks-valid);
       count-le = below;
       none-whole = λ w. absurd (omega (arith, ap flag whole));
     }
@@ -57,6 +63,7 @@ module _ (st : State) (p : Part) (ok : ValidState st) (fits : PartFits (st .sett
     gatherer-valid = valid;
     detector-valid = ok .detector-valid;
     window-valid = ok .window-valid;
+    marks-valid = ok .marks-valid;
     count-le = ok .count-le;
     none-whole = λ w. ok .none-whole (before w);
   }
@@ -84,7 +91,12 @@ module _ (st : State) (p : Part) (ok : ValidState st) (fits : PartFits (st .sett
           rw out (withValue-valid _ half (gatherer.value-le m (st .gatherer) p (ok .gatherer-valid) fits) refl (omega (arith, room, ap length out)) half-valid)
 
 -- the state that a recording leaves; the fresh one
-history-small : (s : Settings) (rec : List ℤ) → Samples rec → 0 < s .samples → (i : ℕ) → Small (history s rec i)
+marks-small : (s : Settings) (rec : List ℤ) (i : ℕ) → Small 1 (marks s rec i)
+marks-small s rec zero j = omega arith
+marks-small s rec (suc i) zero = flag-most (valueClipped s rec (suc i))
+marks-small s rec (suc i) (suc j) = marks-small s rec i j
+
+history-small : (s : Settings) (rec : List ℤ) → Samples rec → 0 < s .samples → (i : ℕ) → Small valueMost (history s rec i)
 history-small s rec are some zero j = omega arith
 history-small s rec are some (suc i) zero = value-le s rec are some (suc i)
 history-small s rec are some (suc i) (suc j) = history-small s rec are some i j
@@ -93,12 +105,17 @@ pub stateOf-valid : (s : Settings) (rec : List ℤ) → ValidSettings s → Reco
 stateOf-valid s rec valid recorded =
     let some : 0 < s .samples = omega (arith, valid .samples-valid .0) in
     let small = history-small s rec (recorded .samples) some (valueCount s rec) in
+    let marked = marks-small s rec (valueCount s rec) in
     let l = length-history s rec (valueCount s rec) in
+    let beside : length (marksOf s rec) ≡ length (values s rec) = omega (arith, l, length-marks s rec (valueCount s rec)) in
+    let n = windowLength s in
     record {
       settings-valid = valid;
       gatherer-valid = gathererOf-valid s some rec (recorded .samples);
-      detector-valid = detectorOf-valid s (values s rec) small;
-      window-valid = windowOf-valid (windowLength s) (values s rec) (windowLength-some s) (windowLength-most s) small;
+      detector-valid = detectorOf-valid s (values s rec) (marksOf s rec) beside small marked;
+      window-valid = windowOf-valid n (values s rec) (windowLength-some s) (windowLength-most s) small;
+      marks-valid =
+          subst (λ (v : ℕ). ValidWindow 1 n v (windowOf n (marksOf s rec))) beside (windowOf-valid n (marksOf s rec) (windowLength-some s) (windowLength-most s) marked);
       count-le = omega (arith, l, recorded .within);
       none-whole = λ w. omega (arith, l, ltb-false 0 (halves s rec) (flag-none (0 <ᵇ halves s rec) w));
     }
@@ -116,10 +133,10 @@ pub halfDue-most : (st : State) (p : Part) → length (halfDue st p) ≤ 4
 unfolding halfDue
 halfDue-most st p = go (valueOut st p) (value-most (st .settings .samples) (st .gatherer) p)
   where
-    go : (rs : List ℕ) → length rs ≤ 1 → length (dueOn rs st) ≤ 4
+    go : (xs : List Marked) → length xs ≤ 1 → length (dueOn xs st) ≤ 4
     go [] one = omega arith
-    go (r ∷ []) one = due-most (st .settings) r (st .detector) (st .window)
-    go (r ∷ (q ∷ rs)) one = absurd (omega arith)
+    go (x ∷ []) one = due-most (st .settings) x (st .detector) (st .window) (st .marks)
+    go (x ∷ (y ∷ xs)) one = absurd (omega arith)
 
 pub within-end : (st : State) (p : Part) → st .detector .count < lastValue → passesEnd st p ≡ false
 unfolding passesEnd

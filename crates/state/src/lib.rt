@@ -1,4 +1,4 @@
-// What a logger keeps: the settings, the gatherer, what is kept of the values, and the window of the last ones. In specs/: what samples do to it.
+// What a logger keeps: the settings, the gatherer, what is kept of the values, and the window of the last ones and of their marks. In specs/: what samples do to it.
 use detection::Detector;
 use reading::Readings;
 use rms::Gatherer;
@@ -17,6 +17,7 @@ pub struct State {
     pub gatherer: Gatherer,
     pub detector: Detector,
     pub window: [u32; 120],
+    pub marks: [u8; 120],
 }
 
 // The sum of a window of `window_length` after `count` values, 0 while it is not full.
@@ -53,6 +54,7 @@ impl State {
             gatherer: Gatherer::new(),
             detector: Detector::new(),
             window: [0; 120],
+            marks: [0; 120],
         }
     }
 

@@ -1,15 +1,17 @@
--- One value's step of a dip, a swell or an interruption, and what a history leaves of it.
-use mathlib.Core.Bool.{Bool, _&&_}
+-- One value's step of a dip, a swell or an interruption, and what a history and its marks leave of it.
+use mathlib.Core.Bool.{Bool, false, _&&_, _||_}
 use mathlib.Core.List.{List, [], _∷_}
 use Prim.Native.Nat.{ℕ, zero, suc, _-_, _*_, min, max}
 use Rattle.settings.specs.declared.Settings.{Settings}
 use Rattle.settings.specs.declared.Threshold.{Threshold}
-use Rattle.numbers.specs.Notation.{_≤ᵇ_, _<ᵇ_, _≡ᵇ_, if_then_else_}
+use Rattle.numbers.specs.Notation.{_≤ᵇ_, _<ᵇ_, _≡ᵇ_, if_then_else_, flag}
 use Rattle.numbers.specs.Rules.{Holds}
 use Rattle.reading.specs.declared.Kind.{Kind}
 use Rattle.reading.specs.declared.Kind.the-variants.{Dip, Swell, Interruption}
 use Rattle.reading.specs.declared.Event.{Event}
+use Rattle.reading.specs.declared.Record.{Record}
 use Rattle.reading.specs.Values.{since}
+use Rattle.reading.specs.Clipping.{clippedSince}
 use Rattle.reading.specs.Thresholds.{standsSince, magnitude}
 use Rattle.reading.specs.Restore.{standingRule}
 use Rattle.threshold.specs.declared.Standing.{Standing}
@@ -33,39 +35,39 @@ worse Swell a b = max a b
 worse Interruption a b = min a b
 
 abbrev pub noEvent : Standing
-noEvent = record { start = 0; magnitude = 0 }
+noEvent = record { start = 0; magnitude = 0; clipped = false }
 
--- an event that goes on with value r
-abbrev pub worsened : Kind → ℕ → Standing → Standing
-worsened k r p = record { start = p .start; magnitude = worse k r (p .magnitude) }
+-- an event that goes on with value r, clipped or not
+abbrev pub worsened : Kind → ℕ → Bool → Standing → Standing
+worsened k r clipped p = record { start = p .start; magnitude = worse k r (p .magnitude); clipped = clipped || p .clipped }
 
 -- after value i, which is r, and which begins the event, ends it, or leaves it as it was
-unfoldable pub stepped : Kind → ℕ → ℕ → Bool → Bool → Standing → Standing
-stepped k i r begins ends p =
-    if begins then (if p .start ≡ᵇ 0 then record { start = i; magnitude = r } else worsened k r p)
+unfoldable pub stepped : Kind → ℕ → ℕ → Bool → Bool → Bool → Standing → Standing
+stepped k i r clipped begins ends p =
+    if begins then (if p .start ≡ᵇ 0 then record { start = i; magnitude = r; clipped = clipped } else worsened k r clipped p)
     else if ends then noEvent
     else if p .start ≡ᵇ 0 then noEvent
-    else worsened k r p
+    else worsened k r clipped p
 
--- the event of a record's kind that stood as p before value i and, as q says, stands no longer after it
+-- the record of the event that stood as p before value i and, as q says, stands no longer after it, with its kind's number
 abbrev pub endedAt : ℕ → ℕ → Standing → Standing → Ended
 endedAt code i p q =
-    if 0 <ᵇ p .start && q .start ≡ᵇ 0 then Over (record { kind = code; start = p .start; duration = i - p .start; first = p .magnitude; second = 0 })
-    else Nothing
+    let e : Event = record { kind = code; start = p .start; duration = i - p .start; first = p .magnitude; second = 0 } in
+    if 0 <ᵇ p .start && q .start ≡ᵇ 0 then Over (record { event = e; clipped = p .clipped }) else Nothing
 
--- the events, none or one
-abbrev pub listOf : Ended → List Event
+-- the records, none or one
+abbrev pub listOf : Ended → List Record
 listOf Nothing = []
-listOf (Over e) = e ∷ []
+listOf (Over r) = r ∷ []
 
 -- what a history leaves
 abbrev pub magnitudeSince : Kind → ℕ → List ℕ → ℕ
 magnitudeSince k zero hist = 0
 magnitudeSince k (suc a) hist = magnitude k (since (suc a) hist)
 
-abbrev pub standingOf : Settings → Kind → List ℕ → Standing
-standingOf s k hist = record { start = standsSince s k hist; magnitude = magnitudeSince k (standsSince s k hist) hist }
+abbrev pub standingOf : Settings → Kind → List ℕ → List ℕ → Standing
+standingOf s k hist ms = let a = standsSince s k hist in record { start = a; magnitude = magnitudeSince k a hist; clipped = clippedSince a ms }
 
 -- what refusal 11 allows of an event, after v values
 abbrev pub ValidStanding : ℕ → Standing → Type 0
-ValidStanding v p = Holds (standingRule v (p .start) (p .magnitude))
+ValidStanding v p = Holds (standingRule v (p .start) (p .magnitude) (flag (p .clipped)))

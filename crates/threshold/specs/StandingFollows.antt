@@ -1,22 +1,24 @@
 -- The step follows the history, for every kind: the state read from a history, stepped by a value, is the state read from the longer history, and the
--- event that ends is the one that the reading has due.
-use mathlib.Core.Path.{_≡_, refl, sym, ap}
-use mathlib.Core.Bool.{Bool, true, false, _&&_}
-use mathlib.Core.List.{List, [], _∷_}
+-- record that ends is the one that the reading has due, with its mark.
+use mathlib.Core.Path.{_≡_, refl, sym, _∙_, ap}
+use mathlib.Core.Bool.{Bool, true, false, _&&_, _||_, or-false}
+use mathlib.Core.List.{List, [], _∷_, map}
 use Prim.Native.Nat.{ℕ, zero, suc, _-_, _≤_, _<_}
 use native.Mathlib.Omega.{arith}
-use lib.ListN.{length, take}
+use lib.ListN.{length, take, drop}
 use lib.Dec.{eqb·suc-zero}
 use Rattle.settings.specs.declared.Settings.{Settings}
-use Rattle.numbers.specs.Notation.{_<ᵇ_, _≡ᵇ_, if_then_else_}
+use Rattle.numbers.specs.Notation.{_<ᵇ_, _≡ᵇ_, if_then_else_, flag}
+use Rattle.numbers.specs.NotationLaws.{flag-back}
 use Rattle.reading.specs.declared.Kind.{Kind}
 use Rattle.reading.specs.declared.Kind.the-variants.{Dip, Swell, Interruption}
 use Rattle.reading.specs.declared.Event.{Event}
-use Rattle.reading.specs.Values.{since}
+use Rattle.reading.specs.Values.{since, upTo}
+use Rattle.reading.specs.Clipping.{anyMarked, clippedSince, lastMeasured, eventClipped, recordOf}
 use Rattle.reading.specs.Thresholds.{begins, ends, standsSince, magnitude, kindNumber, thresholdDue}
 use Rattle.threshold.specs.declared.Standing.{Standing}
 use Rattle.threshold.specs.declared.Ended.the-variants.{Nothing, Over}
-use Rattle.threshold.specs.Standing.{worse, stepped, endedAt, listOf, magnitudeSince, standingOf}
+use Rattle.threshold.specs.Standing.{worse, worsened, stepped, endedAt, listOf, magnitudeSince, standingOf}
 
 standsSince-le : (s : Settings) (k : Kind) (hist : List ℕ) → standsSince s k hist ≤ length hist
 standsSince-le s k [] = omega arith
@@ -56,34 +58,79 @@ module _ (k : Kind) (r : ℕ) (older : List ℕ) where
       one Swell = omega arith
       one Interruption = refl
 
-pub follows : (s : Settings) (k : Kind) (r : ℕ) (older : List ℕ) →
-    stepped k (suc (length older)) r (begins s k r) (ends s k r) (standingOf s k older) ≡ standingOf s k (r ∷ older)
-unfolding stepped
-follows s k r older = go (begins s k r) (ends s k r) (standsSince s k older) (standsSince-le s k older)
-  where
-    state : ℕ → List ℕ → Standing
-    state a hist = record { start = a; magnitude = magnitudeSince k a hist }
+-- the mark with one value more
+module _ (clipped : Bool) (ms : List ℕ) where
+  clipped-on : (a : ℕ) → 0 < a → a ≤ length ms → clippedSince a (flag clipped ∷ ms) ≡ (clipped || clippedSince a ms)
+  clipped-on zero h g = absurd (omega arith)
+  clipped-on (suc a) h g =
+      let e : suc (suc (length ms)) - suc a ≡ suc (suc (length ms) - suc a) = omega arith in
+      rw (e, flag-back clipped)
 
-    go : (b e : Bool) (a : ℕ) → a ≤ length older →
-        stepped k (suc (length older)) r b e (state a older) ≡ state (if b then (if a ≡ᵇ 0 then suc (length older) else a) else if e then 0 else a) (r ∷ older)
-    go true e zero h = ap (λ (x : ℕ). record { start = suc (length older); magnitude = x }) (sym (begins-now k r older))
-    go true e (suc a) h = rw eqb·suc-zero (ap (λ (x : ℕ). record { start = suc a; magnitude = x }) (sym (goes-on k r older (suc a) (omega arith) h)))
-    go false true a h = refl
-    go false false zero h = refl
-    go false false (suc a) h = rw eqb·suc-zero (ap (λ (x : ℕ). record { start = suc a; magnitude = x }) (sym (goes-on k r older (suc a) (omega arith) h)))
+  clipped-now : clippedSince (suc (length ms)) (flag clipped ∷ ms) ≡ clipped
+  clipped-now =
+      let e : suc (suc (length ms)) - suc (length ms) ≡ 1 = omega arith in
+      rw (e, flag-back clipped) (or-false clipped)
 
-pub ended-follows : (s : Settings) (k : Kind) (r : ℕ) (older : List ℕ) →
-    listOf (endedAt (kindNumber k) (suc (length older)) (standingOf s k older) (standingOf s k (r ∷ older))) ≡ thresholdDue s k (r ∷ older)
-ended-follows s k r older = go (standsSince s k older) (standsSince s k (r ∷ older) ≡ᵇ 0)
-  where
-    made : ℕ → ℕ → Event
-    made a x = record { kind = kindNumber k; start = a; duration = suc (length older) - a; first = x; second = 0 }
+-- a value r, clipped or not, after older ones, each with its mark
+module _ (s : Settings) (k : Kind) (r : ℕ) (older : List ℕ) (clipped : Bool) (ms : List ℕ) (beside : length ms ≡ length older) where
+  abbrev now : List ℕ
+  now = flag clipped ∷ ms
 
-    go : (a : ℕ) (z : Bool) → listOf (if 0 <ᵇ a && z then Over (made a (magnitudeSince k a older)) else Nothing)
-        ≡ (if 0 <ᵇ a && z then made a (magnitude k (since a older)) ∷ [] else [])
-    go zero z = refl
-    go (suc a) z = listed (0 <ᵇ suc a && z) (made (suc a) (magnitude k (since (suc a) older)))
-      where
-        listed : (b : Bool) (e : Event) → listOf (if b then Over e else Nothing) ≡ (if b then e ∷ [] else [])
-        listed true e = refl
-        listed false e = refl
+  pub follows : stepped k (suc (length older)) r clipped (begins s k r) (ends s k r) (standingOf s k older ms) ≡ standingOf s k (r ∷ older) now
+  unfolding stepped
+  follows = go (begins s k r) (ends s k r) (standsSince s k older) (standsSince-le s k older)
+    where
+      state : ℕ → List ℕ → List ℕ → Standing
+      state a hist ms = record { start = a; magnitude = magnitudeSince k a hist; clipped = clippedSince a ms }
+
+      on : (a : ℕ) → suc a ≤ length older → worsened k r clipped (state (suc a) older ms) ≡ state (suc a) (r ∷ older) now
+      on a h =
+          let m = goes-on k r older (suc a) (omega arith) h in
+          let c = clipped-on clipped ms (suc a) (omega arith) (omega arith) in
+          λ j. record { start = suc a; magnitude = sym m j; clipped = sym c j }
+
+      begun : record { start = suc (length older); magnitude = r; clipped = clipped } ≡ state (suc (length older)) (r ∷ older) now
+      begun =
+          let c = ap (λ (n : ℕ). clippedSince (suc n) now) (sym beside) ∙ clipped-now clipped ms in
+          λ j. record { start = suc (length older); magnitude = sym (begins-now k r older) j; clipped = sym c j }
+
+      go : (b e : Bool) (a : ℕ) → a ≤ length older →
+          stepped k (suc (length older)) r clipped b e (state a older ms)
+          ≡ state (if b then (if a ≡ᵇ 0 then suc (length older) else a) else if e then 0 else a) (r ∷ older) now
+      go true e zero h = begun
+      go true e (suc a) h = rw eqb·suc-zero (on a h)
+      go false true a h = refl
+      go false false zero h = refl
+      go false false (suc a) h = rw eqb·suc-zero (on a h)
+
+  pub ended-follows :
+      listOf (endedAt (kindNumber k) (suc (length older)) (standingOf s k older ms) (standingOf s k (r ∷ older) now)) ≡ map (recordOf now) (thresholdDue s k (r ∷ older))
+  ended-follows = go (standsSince s k older) (standsSince-le s k older) (standsSince s k (r ∷ older) ≡ᵇ 0)
+    where
+      made : ℕ → ℕ → Event
+      made a x = record { kind = kindNumber k; start = a; duration = suc (length older) - a; first = x; second = 0 }
+
+      -- its last value is the one before r
+      last : (k : Kind) (a x : ℕ) → a ≤ length older
+          → lastMeasured (record { kind = kindNumber k; start = a; duration = suc (length older) - a; first = x; second = 0 }) ≡ length ms
+      last Dip a x h = omega arith
+      last Swell a x h = omega arith
+      last Interruption a x h = omega arith
+
+      marked : (a x : ℕ) → suc a ≤ length older → clippedSince (suc a) ms ≡ eventClipped now (made (suc a) x)
+      marked a x h =
+          let e : suc (length ms) - length ms ≡ 1 = omega arith in
+          sym (ap (λ (i : ℕ). anyMarked (since (suc a) (upTo i now))) (last k (suc a) x h) ∙ ap (λ (i : ℕ). anyMarked (since (suc a) (drop i now))) e)
+
+      go : (a : ℕ) → a ≤ length older → (z : Bool)
+          → listOf (if 0 <ᵇ a && z then Over (record { event = made a (magnitudeSince k a older); clipped = clippedSince a ms }) else Nothing)
+          ≡ map (recordOf now) (if 0 <ᵇ a && z then made a (magnitude k (since a older)) ∷ [] else [])
+      go zero h z = refl
+      go (suc a) h z = listed (0 <ᵇ suc a && z)
+        where
+          e : Event
+          e = made (suc a) (magnitude k (since (suc a) older))
+
+          listed : (b : Bool) → listOf (if b then Over (record { event = e; clipped = clippedSince (suc a) ms }) else Nothing) ≡ map (recordOf now) (if b then e ∷ [] else [])
+          listed true = λ j. record { event = e; clipped = marked a (magnitude k (since (suc a) older)) h j } ∷ []
+          listed false = refl

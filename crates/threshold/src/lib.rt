@@ -1,21 +1,23 @@
 // Dips, swells and interruptions: what is kept of each, and one value's step, the same for all three.
 use reading::Event;
 use reading::Kind;
+use reading::Record;
 use settings::Threshold;
 ghost use mathlib.Core.Path.{_≡_};
 ghost use Prim.Native.Nat.{_≤_, min, max};
 ghost use Rattle.threshold.specs.Standing.{beginsAt, endsAt, worse, noEvent, worsened, stepped, endedAt};
 
-// What is kept of an event: its start, and its magnitude so far. 0 and 0 where none stands.
+// What is kept of an event: its start, its magnitude so far, and whether one of its values is clipped. 0, 0 and false where none stands.
 pub struct Standing {
     pub start: u64,
     pub magnitude: u64,
+    pub clipped: bool,
 }
 
-// The event that is over with a value, if one is.
+// The record of the event that is over with a value, if one is.
 pub enum Ended {
     Nothing,
-    Over(Event),
+    Over(Record),
 }
 
 // Whether a value is beyond the level at which an event begins. Values and levels are compared in 10,000ths.
@@ -72,32 +74,35 @@ impl Standing {
         Standing {
             start: 0,
             magnitude: 0,
+            clipped: false,
         }
     }
 
-    fn with_value(self, kind: Kind, value: u64) -> Standing
-        ensures { λ r. ⌜ r ≡ worsened kind value self ⌝ }
+    fn with_value(self, kind: Kind, value: u64, clipped: bool) -> Standing
+        ensures { λ r. ⌜ r ≡ worsened kind value clipped self ⌝ }
     {
         let magnitude = worse_of(kind, value, self.magnitude);
         Standing {
             start: self.start,
             magnitude,
+            clipped: clipped | self.clipped,
         }
     }
 
     // After value i, which begins the event, ends it, or leaves it as it was.
-    pub fn step(self, kind: Kind, level: Threshold, i: u64, value: u64) -> Standing
+    pub fn step(self, kind: Kind, level: Threshold, i: u64, value: u64, clipped: bool) -> Standing
         requires { ⌜ value ≤ 524288 ⌝ }
-        ensures { λ r. ⌜ r ≡ stepped kind i value (beginsAt kind level value) (endsAt kind level value) self ⌝ }
+        ensures { λ r. ⌜ r ≡ stepped kind i value clipped (beginsAt kind level value) (endsAt kind level value) self ⌝ }
     {
         if begins(kind, level, value) {
             if self.start == 0 {
                 return Standing {
                     start: i,
                     magnitude: value,
+                    clipped,
                 };
             }
-            return self.with_value(kind, value);
+            return self.with_value(kind, value, clipped);
         }
         if ends(kind, level, value) {
             return Standing::none();
@@ -105,10 +110,10 @@ impl Standing {
         if self.start == 0 {
             return Standing::none();
         }
-        self.with_value(kind, value)
+        self.with_value(kind, value, clipped)
     }
 
-    // The event that stood before value i and, as `after` says, stands no longer after it.
+    // The record of the event that stood before value i and, as `after` says, stands no longer after it.
     pub fn ended(self, code: u8, i: u64, after: Standing) -> Ended
         ensures { λ r. ⌜ r ≡ endedAt code i self after ⌝ }
     {
@@ -120,7 +125,10 @@ impl Standing {
                 first: self.magnitude,
                 second: 0,
             };
-            return Ended::Over(event);
+            return Ended::Over(Record {
+                event,
+                clipped: self.clipped,
+            });
         }
         Ended::Nothing
     }

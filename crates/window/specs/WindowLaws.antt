@@ -2,7 +2,7 @@
 use mathlib.Core.Path.{_≡_, refl, ap, sym, _∙_}
 use mathlib.Core.Bool.{Bool, true, false, _&&_, and-assoc}
 use mathlib.Core.List.{List, [], _∷_, _++_}
-use Prim.Native.Nat.{ℕ, suc, _+_, _-_, _≤_, _<_}
+use Prim.Native.Nat.{ℕ, zero, suc, _+_, _-_, _≤_, _<_}
 use native.Mathlib.Omega.{arith}
 use lib.ListN.{length, take, drop, set, getD, length-drop}
 use lib.Seq.{length-take-le, take-append-add, take-suc-set}
@@ -43,3 +43,24 @@ module _ (n v r : ℕ) (w : List ℕ) (some : 0 < n) (full : n ≤ suc v) (long 
 -- what leaves the full window
 pub leaving-full : (n v : ℕ) (w : List ℕ) → n ≤ v → leaving n v w ≡ getD w 0 0
 leaving-full n v w full = rw (le-ltb v n full)
+
+-- 0 into a window of zeros leaves it as it was
+set-zero : (w : List ℕ) (i : ℕ) → sum w ≡ 0 → set w i 0 ≡ w
+set-zero [] i e = refl
+set-zero (x ∷ w) zero e = let z : 0 ≡ x = omega arith in ap (λ (y : ℕ). y ∷ w) z
+set-zero (x ∷ w) (suc i) e = ap (λ (l : List ℕ). x ∷ l) (set-zero w i (omega arith))
+
+shift-zero : (m : ℕ) (w : List ℕ) → sum w ≡ 0 → suc m ≤ length w → take m (drop 1 w) ++ (0 ∷ drop (suc m) w) ≡ w
+shift-zero m [] e h = absurd (omega arith)
+shift-zero zero (x ∷ w) e h = let z : 0 ≡ x = omega arith in ap (λ (y : ℕ). y ∷ w) z
+shift-zero (suc m) (x ∷ []) e h = absurd (omega arith)
+shift-zero (suc m) (x ∷ y ∷ w) e h = let z : y ≡ x = omega arith in λ i. z i ∷ shift-zero m (y ∷ w) (omega arith) (omega arith) i
+
+pub pushed-zero : (n v : ℕ) (w : List ℕ) → 0 < n → n ≤ length w → sum w ≡ 0 → pushed n v w 0 ≡ w
+pushed-zero n v w some long none = go (v <ᵇ n)
+  where
+    go : (b : Bool) → (if b then set w v 0 else take (n - 1) (drop 1 w) ++ (0 ∷ drop n w)) ≡ w
+    go true = set-zero w v none
+    go false =
+        let k : n ≡ suc (n - 1) = omega arith in
+        ap (λ (j : ℕ). take (n - 1) (drop 1 w) ++ (0 ∷ drop j w)) k ∙ shift-zero (n - 1) w none (omega arith)

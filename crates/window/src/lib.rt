@@ -1,4 +1,4 @@
-// The window of the last values, 120 places, oldest first, with 0 in those not used yet.
+// The window of the last values and their marks, 120 places each, oldest first, with 0 in those not used yet.
 ghost use mathlib.Core.Path.{_≡_};
 ghost use Prim.Native.Nat.{_-_, _≤_, _<_, min};
 ghost use lib.ListN.{length, getD};
@@ -25,6 +25,41 @@ pub fn push(window: &mut [u32], window_length: usize, count: usize, value: u32)
     window[last] = value;
 }
 
+// The sum of the window's values, and how many of them are clipped.
+pub struct Sums {
+    pub values: u64,
+    pub marks: u64,
+}
+
+// The mark of that value joins the window's marks.
+fn shift_marks(marks: &mut [u8], window_length: usize, count: usize, mark: u8)
+    requires { ⌜ (0 < «window_length») × («window_length» ≤ length (now marks)) ⌝ }
+    ensures { λ _. ⌜ now (marks .exit) ≡ pushed «window_length» count (now (marks .entry)) mark ⌝ }
+{
+    let last = window_length - 1;
+    if count <= last {
+        marks[count] = mark;
+        return;
+    }
+    let mut i: usize = 0;
+    while i < last {
+        marks[i] = marks[i + 1];
+        i += 1;
+    }
+    marks[last] = mark;
+}
+
+// The same, where `marked` of the window's values are clipped: mostly none is, and a mark of 0 among zeros moves nothing.
+pub fn push_mark(marks: &mut [u8], window_length: usize, count: usize, marked: u64, mark: u8)
+    requires { ⌜ (0 < «window_length») × («window_length» ≤ length (now marks)) × (marked ≡ sumOf (now marks)) ⌝ }
+    ensures { λ _. ⌜ now (marks .exit) ≡ pushed «window_length» count (now (marks .entry)) mark ⌝ }
+{
+    if (marked == 0) & (mark == 0) {
+        return;
+    }
+    shift_marks(marks, window_length, count, mark);
+}
+
 // The newest of `count` values, of which some may have left the window; its first place, which is 0 then, where there is none.
 pub fn newest(window: &[u32], window_length: u64, count: u64) -> u32
     requires { ⌜ (0 < «window_length») × («window_length» ≤ length (now window)) ⌝ }
@@ -46,6 +81,20 @@ pub fn sum_of(part: &[u32]) -> u64
         i += 1;
     }
     sum
+}
+
+// The same of marks.
+pub fn sum_marks(marks: &[u8]) -> u64
+    requires { ⌜ length (now marks) ≤ 120 ⌝ }
+    ensures { λ r. ⌜ r ≡ sumOf (now (marks .entry)) ⌝ }
+{
+    let mut marked: u64 = 0;
+    let mut i: usize = 0;
+    while i < marks.len() {
+        marked += marks[i] as u64;
+        i += 1;
+    }
+    marked
 }
 
 // Whether every value lies from `lowest` to `highest`. One comparison tells of a value: its distance from `lowest` wraps where it lies below, and is then

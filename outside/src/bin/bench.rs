@@ -6,6 +6,7 @@
 //! machine whose pace wanders wanders for both. Told are medians, and in brackets the least.
 
 use outside::hosts::{hosts, Host};
+use outside::image::IMAGE;
 use outside::rng::Rng;
 use std::hint::black_box;
 use std::time::Instant;
@@ -119,9 +120,9 @@ fn heading(first: &str, hosts: &[Host], units: &[&str]) {
 
 /// An image that is well into the feed.
 fn warmed(host: &Host, m: usize, bytes: &[u8]) -> Vec<u8> {
-    let mut fresh = vec![0; 620];
+    let mut fresh = vec![0; IMAGE];
     assert_eq!((host.begin)(&settings(m as u32), &mut fresh), 0);
-    let mut image = vec![0; 620];
+    let mut image = vec![0; IMAGE];
     let mut records = vec![0; 20 * bytes.len()];
     let mut reply = [0; 24];
     let end = (2 * 2000 * m).min(bytes.len());
@@ -131,7 +132,7 @@ fn warmed(host: &Host, m: usize, bytes: &[u8]) -> Vec<u8> {
 
 /// Nanoseconds for one advance over the whole feed, and the records written.
 fn large(host: &Host, image: &[u8], bytes: &[u8], records: &mut [u8]) -> (f64, u64) {
-    let mut new = [0; 620];
+    let mut new = [0; IMAGE];
     let mut reply = [0; 24];
     let start = Instant::now();
     let number = (host.advance)(black_box(image), black_box(bytes), &mut new, records, &mut reply);
@@ -144,7 +145,7 @@ fn large(host: &Host, image: &[u8], bytes: &[u8], records: &mut [u8]) -> (f64, u
 
 /// Nanoseconds for one advance after the other over pieces of the feed, image to image.
 fn pieces(host: &Host, image: &[u8], bytes: &[u8], piece: usize, records: &mut [u8]) -> f64 {
-    let (mut one, mut other) = ([0; 620], [0; 620]);
+    let (mut one, mut other) = ([0; IMAGE], [0; IMAGE]);
     one.copy_from_slice(image);
     let (mut old, mut new) = (&mut one, &mut other);
     let mut reply = [0; 24];
@@ -212,7 +213,7 @@ fn main() {
     heading("", &hosts, &["ns/call"]);
     let times = rounds(count, &hosts, |_, host| {
         let q = settings(8);
-        let mut image = [0; 620];
+        let mut image = [0; IMAGE];
         let start = Instant::now();
         for _ in 0..CALLS {
             assert_eq!((host.begin)(black_box(&q), black_box(&mut image)), 0);
@@ -223,7 +224,7 @@ fn main() {
     let bytes = samples("events", 8, LARGE);
     let images: Vec<_> = hosts.iter().map(|x| warmed(x, 8, &bytes)).collect();
     let times = rounds(count, &hosts, |j, host| {
-        let (mut image, mut reply) = ([0; 620], [0; 24]);
+        let (mut image, mut reply) = ([0; IMAGE], [0; 24]);
         let start = Instant::now();
         for _ in 0..CALLS {
             let old = black_box(&images[j]);

@@ -49,7 +49,7 @@ fn run(seed: u64, number: u64, program: &str, seen: &mut Tally) {
 
 /// Writes the program's input in the gate, and what it must write.
 fn write_files(folder: &str) {
-    let (input, text) = files();
+    let List { input, text } = files(&mut Tally::default());
     std::fs::write(format!("{folder}/stdin"), input).expect("the input cannot be written");
     std::fs::write(format!("{folder}/stdout"), text).expect("the text cannot be written");
 }

@@ -1,6 +1,6 @@
--- The phase's five numbers are those of `numbers_of`, and those of the three events follow them.
+-- The phase's five numbers are those of `numbers_of`; those of the three events follow them, and the marks.
 use mathlib.Core.Path.{_≡_, refl, _∙_, ap}
-use mathlib.Core.List.{List, _∷_, _++_}
+use mathlib.Core.List.{List, [], _∷_, _++_}
 use Prim.Native.Nat.{ℕ}
 use lib.ListN.{getD}
 use borrow.Author.Needs.{needs}
@@ -9,8 +9,7 @@ use Rattle.reading.specs.Layout.{eventsWidths}
 use Rattle.rvc.specs.declared.Phase.{Phase}
 use Rattle.rvc.specs.declared.Phase.the-variants.{Filling, Unsettled, Steady, Changing}
 use Rattle.rvc.specs.Phase.{phaseRow}
-use Rattle.detection.specs.declared.Detector.{Detector}
-use Rattle.bodies.specs.Bodies.{standingRow, detectorRow}
+use Rattle.bodies.specs.Bodies.{standingRow}
 use Rattle.bodies.proofs.put_detector.Statement.{statement}
 use Rattle.bodies.proofs.put_detector.Tie as tie
 
@@ -23,11 +22,6 @@ five-of Filling rest = refl
 five-of Unsettled rest = refl
 five-of Steady rest = refl
 five-of (Changing c) rest = refl
-
-numbers-are : (d : Detector) (l : List ℕ) → l ≡ phaseRow (d .phase) → five l (standingRow (d .dip) ++ (standingRow (d .swell) ++ standingRow (d .interruption))) ≡ detectorRow d
-numbers-are d l e =
-    let events = standingRow (d .dip) ++ (standingRow (d .swell) ++ standingRow (d .interruption)) in
-    ap (λ (n : List ℕ). five n events) e ∙ five-of (d .phase) events
 
 numbers-of-requires : tie.Need-numbers-of-requires
 numbers-of-requires c κs = search needs
@@ -47,6 +41,27 @@ array-read-t23 c = search needs
 array-read-t26 : tie.Need-array-read-t26
 array-read-t26 c = search needs
 
+flag-requires : tie.Need-flag-requires
+flag-requires c κs = search needs
+
+cast-t28 : tie.Need-cast-t28
+cast-t28 c = search needs
+
+flag-requires-2 : tie.Need-flag-requires-2
+flag-requires-2 c κs = search needs
+
+cast-t30 : tie.Need-cast-t30
+cast-t30 c = search needs
+
+flag-requires-3 : tie.Need-flag-requires-3
+flag-requires-3 c κs = search needs
+
+cast-t32 : tie.Need-cast-t32
+cast-t32 c = search needs
+
+change-mark-requires : tie.Need-change-mark-requires
+change-mark-requires c κs = search needs
+
 slice-aggregate-put-row : tie.Need-slice-aggregate-put-row
 slice-aggregate-put-row c = search needs
 
@@ -61,7 +76,22 @@ same-length c = search needs
 
 returns : tie.Need-returns
 returns c =
-    c .before .before .put-row .ensures ∙ ap (row eventsWidths) (numbers-are (c .before .before .before .before .before .before .before .before .before .before .before .args .detector) _ (c .before .before .before .before .before .before .before .before .before .numbers-of .ensures))
+    let at-row = c .before .before in
+    let at-change = at-row .before .before .before .before in
+    let at-interruption = at-change .before in
+    let at-swell = at-interruption .before in
+    let at-dip = at-swell .before in
+    let at-numbers = at-dip .before .before .before .before in
+    let d = at-numbers .before .before .args .detector in
+    let numbers = at-numbers .numbers-of .ensures in
+    let dip = at-dip .flag .ensures in
+    let swell = at-swell .flag2 .ensures in
+    let interruption = at-interruption .flag3 .ensures in
+    let change = at-change .change-mark .ensures in
+    let events = standingRow (d .dip) ++ (standingRow (d .swell) ++ standingRow (d .interruption)) in
+    at-row .put-row .ensures
+    ∙ ((λ i. row eventsWidths (five (numbers i) (events ++ (dip i ∷ swell i ∷ interruption i ∷ change i ∷ []))))
+    ∙ ap (row eventsWidths) (five-of (d .phase) _))
 
 pub put-detector-spec : {M : Type 1} → statement M
 put-detector-spec =
@@ -73,6 +103,13 @@ put-detector-spec =
     array-read-t20
     array-read-t23
     array-read-t26
+    flag-requires
+    cast-t28
+    flag-requires-2
+    cast-t30
+    flag-requires-3
+    cast-t32
+    change-mark-requires
     slice-aggregate-put-row
     slice-aggregate-put-row-2
     put-row-requires

@@ -1,7 +1,6 @@
--- The row of the gatherer's numbers.
-use mathlib.Core.Path.{_∙_, ap}
+-- The row of the gatherer's numbers; the flags are those of its marks.
+use mathlib.Core.Path.{_∙_}
 use mathlib.Core.List.{[], _∷_}
-use Prim.Native.Nat.{ℕ}
 use borrow.Author.Needs.{needs}
 use Rattle.octets.specs.Bytes.{row}
 use Rattle.reading.specs.Layout.{gathererWidths}
@@ -11,8 +10,23 @@ use Rattle.bodies.proofs.put_gatherer.Tie as tie
 cast-t6 : tie.Need-cast-t6
 cast-t6 c = search needs
 
-mark-of-requires : tie.Need-mark-of-requires
-mark-of-requires c κs = search needs
+flag-requires : tie.Need-flag-requires
+flag-requires c κs = search needs
+
+cast-t8 : tie.Need-cast-t8
+cast-t8 c = search needs
+
+flag-requires-2 : tie.Need-flag-requires-2
+flag-requires-2 c κs = search needs
+
+cast-t10 : tie.Need-cast-t10
+cast-t10 c = search needs
+
+flag-requires-3 : tie.Need-flag-requires-3
+flag-requires-3 c κs = search needs
+
+cast-t12 : tie.Need-cast-t12
+cast-t12 c = search needs
 
 slice-aggregate-put-row : tie.Need-slice-aggregate-put-row
 slice-aggregate-put-row c = search needs
@@ -27,14 +41,28 @@ same-length : tie.Need-same-length
 same-length c = search needs
 
 returns : tie.Need-returns
-returns c = c .before .before .put-row .ensures ∙ ap (λ (m : ℕ). row gathererWidths (c .before .before .before .before .before .before .before .before .before .args .gatherer .count ∷ c .before .before .before .before .before .before .before .before .before .args .gatherer .sum ∷ c .before .before .before .before .before .before .before .before .before .args .gatherer .last ∷ m ∷ [])) (c .before .before .before .before .before .before .mark-of .ensures)
+returns c =
+    let at-row = c .before .before in
+    let at-last-mark = at-row .before .before .before .before in
+    let at-mark = at-last-mark .before in
+    let at-whole = at-mark .before in
+    let g = at-whole .before .before .before .args .gatherer in
+    let whole = at-whole .flag .ensures in
+    let mark = at-mark .flag2 .ensures in
+    let last-mark = at-last-mark .flag3 .ensures in
+    at-row .put-row .ensures ∙ (λ i. row gathererWidths (g .count ∷ g .sum ∷ g .last ∷ whole i ∷ mark i ∷ last-mark i ∷ []))
 
 pub put-gatherer-spec : {M : Type 1} → statement M
 put-gatherer-spec =
     tie.close
     (tie.spec
     cast-t6
-    mark-of-requires
+    flag-requires
+    cast-t8
+    flag-requires-2
+    cast-t10
+    flag-requires-3
+    cast-t12
     slice-aggregate-put-row
     slice-aggregate-put-row-2
     put-row-requires

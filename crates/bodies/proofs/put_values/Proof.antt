@@ -1,23 +1,38 @@
--- V and the places stand in the two parts, one behind the other.
-use mathlib.Core.Path.{_≡_, refl, _∙_, ap}
+-- V, the values and the marks stand in the three parts, one behind the other; marks are one byte each, and so their own row.
+use mathlib.Core.Path.{_≡_, refl, sym, _∙_, ap}
 use mathlib.Core.List.{List, _∷_, _++_}
 use Prim.Native.Nat.{ℕ, _-_}
 use native.Mathlib.Omega.{arith}
 use lib.ListN.{length, drop, replicate, length-drop}
 use borrow.Author.Needs.{needs}
-use Rattle.octets.specs.Bytes.{bytesOf, row, fours}
-use Rattle.octets.specs.PartsLaws.{put-last, bytesOf-part}
-use Rattle.reading.specs.Layout.{valuesWidths, valuesLength}
 use borrow.Rule.Slice.PartMut.{putMid}
+use Rattle.octets.specs.Bytes.{Bytes, bytesOf, row, fours}
+use Rattle.octets.specs.BytesLaws.{bytes-by}
+use Rattle.octets.specs.RowLaws.{length-row, row-append, row-ones}
+use Rattle.octets.specs.PartsLaws.{put-next, put-last, bytesOf-part}
+use Rattle.reading.specs.Layout.{places, valuesWidths, valuesLength}
+use Rattle.bodies.specs.Bodies.{marksAt}
 use Rattle.bodies.proofs.put_values.Statement.{statement}
 use Rattle.bodies.proofs.put_values.Tie as tie
 
-values-put : (p : List ℕ) (v : ℕ) (w y₁ y₂ : List ℕ) → length p ≡ valuesLength → length w ≡ 120 → y₁ ≡ bytesOf 4 v → y₂ ≡ row (fours w) w →
-    putMid 4 (valuesLength - 4) (putMid 0 4 p y₁) y₂ ≡ row valuesWidths (v ∷ w)
-values-put p v w y₁ y₂ l size e₁ e₂ =
-    (λ i. putMid 4 (valuesLength - 4) (putMid 0 4 p (e₁ i)) (e₂ i))
-    ∙ (put-last 4 (valuesLength - 4) (putMid 0 4 p (bytesOf 4 v)) (bytesOf 4 v) (drop 4 p) (row (fours w) w) refl refl (simp length-drop (omega arith))
-    ∙ ap (λ (n : ℕ). bytesOf 4 v ++ row (replicate n 4) w) size)
+module _ (w marks : List ℕ) (values-size : length w ≡ places) (marks-size : length marks ≡ places) where
+  both-rows : Bytes marks → row (replicate places 4) w ++ marks ≡ row (replicate places 4 ++ replicate places 1) (w ++ marks)
+  both-rows are =
+      let ones : row (replicate places 1) marks ≡ marks = rw marks-size at (row-ones marks are) in
+      sym (row-append (replicate places 4) (replicate places 1) w marks values-size ∙ ap (row (replicate places 4) w ++_) ones)
+
+  values-put : (p : List ℕ) (v : ℕ) (y₁ y₂ y₃ : List ℕ) → length p ≡ valuesLength → Bytes marks → y₁ ≡ bytesOf 4 v → y₂ ≡ row (fours w) w → y₃ ≡ marks →
+      putMid marksAt (valuesLength - marksAt) (putMid 4 (marksAt - 4) (putMid 0 4 p y₁) y₂) y₃ ≡ row valuesWidths (v ∷ (w ++ marks))
+  values-put p v y₁ y₂ y₃ size are e₁ e₂ e₃ =
+      let values = row (replicate places 4) w in
+      let two = bytesOf 4 v ++ values in
+      let rest = drop (marksAt - 4) (drop 4 p) in
+      let e₂₄ : y₂ ≡ values = e₂ ∙ ap (λ (n : ℕ). row (replicate n 4) w) values-size in
+      let long : length two ≡ marksAt = omega (arith, length-row (replicate places 4) w values-size) in
+      let in-place = put-next 4 (marksAt - 4) (putMid 0 4 p (bytesOf 4 v)) (bytesOf 4 v) (drop 4 p) values refl refl in
+      (λ i. putMid marksAt (valuesLength - marksAt) (putMid 4 (marksAt - 4) (putMid 0 4 p (e₁ i)) (e₂₄ i)) (e₃ i))
+      ∙ (put-last marksAt (valuesLength - marksAt) _ two rest marks in-place long (simp length-drop (omega arith))
+      ∙ ap (bytesOf 4 v ++_) (both-rows are))
 
 sub-put-number : tie.Need-sub-put-number
 sub-put-number c = search needs
@@ -43,13 +58,34 @@ part-put-words-end c = search needs
 put-words-requires : tie.Need-put-words-requires
 put-words-requires c κs = search needs
 
+sub-copy : tie.Need-sub-copy
+sub-copy c = search needs
+
+part-copy-start : tie.Need-part-copy-start
+part-copy-start c = search needs
+
+part-copy-end : tie.Need-part-copy-end
+part-copy-end c = search needs
+
+copy-requires : tie.Need-copy-requires
+copy-requires c κs = search needs
+
 same-length : tie.Need-same-length
 same-length c = search needs
 
 returns : tie.Need-returns
 returns c =
-    let a = c .before .before .before .before .before .before .before .before .before .before .args in
-    values-put (a .part .now) (a .count) (a .window .now) _ _ (c .before .before .before .before .before .before .before .before .before .before .pre .0) (c .before .before .before .before .before .before .before .before .before .before .pre .1) (bytesOf-part 0 4 (a .count) (a .part .now) _ (omega arith) (c .before .before .before .before .before .before .put-number .ensures)) (c .before .before .put-words .ensures)
+    let at-copy = c .before .before in
+    let at-words = at-copy .before .before .before .before in
+    let at-number = at-words .before .before .before .before in
+    let known = at-number .before .before in
+    let start = known .before .before .before in
+    let a = start .args in
+    values-put (a .window .now) (a .marks .now) (start .pre .1) (start .pre .2) (a .part .now) (a .count) _ _ _ (start .pre .0)
+    (bytes-by (a .marks .now) (λ i. omega (arith, known .shared-slice-known2 .given i)))
+    (bytesOf-part 0 4 (a .count) (a .part .now) _ (omega arith) (at-number .put-number .ensures))
+    (at-words .put-words .ensures)
+    (at-copy .copy .ensures)
 
 pub put-values-spec : {M : Type 1} → statement M
 put-values-spec =
@@ -63,5 +99,9 @@ put-values-spec =
     part-put-words-start
     part-put-words-end
     put-words-requires
+    sub-copy
+    part-copy-start
+    part-copy-end
+    copy-requires
     same-length
     returns)

@@ -25,6 +25,20 @@ answer-is : (s : Settings) (body ns : List ℕ) (r : Bool) → ns ≡ numbersIn 
 unfolding gathererAnswer
 answer-is s body ns r e t = ap (λ (b : Bool). answer-by b ns) t ∙ ap (λ (l : List ℕ). answer-by (passes (gathererRule (s .samples) l)) l) e
 
+-- what `gatherer_good` answered of them
+module _ (c : tie.After-gatherer-good) where
+  abbrev at-row : tie.After-get-row
+  at-row = c .before .before .before
+
+  abbrev ns : List ℕ
+  ns = at-row .get-row .last .1 .1 .0
+
+  abbrev start : tie.Start
+  start = at-row .before .before .before .before
+
+  answer : answer-by (c .gatherer-good .result) ns ≡ gathererAnswer (start .args .settings) (start .args .part .now)
+  answer = answer-is _ _ _ _ (at-row .get-row .ensures) (c .gatherer-good .ensures)
+
 slice-aggregate-get-row : tie.Need-slice-aggregate-get-row
 slice-aggregate-get-row c = search needs
 
@@ -45,7 +59,7 @@ array-read-t17 c = search needs
 
 cast-t18 : tie.Need-cast-t18
 cast-t18 c =
-    let rule = gathererRule (c .before .before .before .before .before .before .before .before .args .settings .samples) (c .before .before .before .before .get-row .last .1 .1 .0) in
+    let rule = gathererRule (start (c .before) .args .settings .samples) (ns (c .before)) in
     let h = holds rule (sym (c .before .gatherer-good .ensures) ∙ c .if1 .taken) in
     omega (arith, h .0)
 
@@ -58,11 +72,17 @@ array-read-t24 c = search needs
 array-read-t27 : tie.Need-array-read-t27
 array-read-t27 c = search needs
 
+array-read-t31 : tie.Need-array-read-t31
+array-read-t31 c = search needs
+
+array-read-t35 : tie.Need-array-read-t35
+array-read-t35 c = search needs
+
 returns : tie.Need-returns
-returns c = ap (λ (b : Bool). answer-by b (c .before .before .before .before .get-row .last .1 .1 .0)) (sym (c .if1 .taken)) ∙ answer-is (c .before .before .before .before .before .before .before .before .args .settings) (c .before .before .before .before .before .before .before .before .args .part .now) _ _ (c .before .before .before .before .get-row .ensures) (c .before .gatherer-good .ensures)
+returns c = ap (λ (b : Bool). answer-by b (ns (c .before))) (sym (c .if1 .taken)) ∙ answer (c .before)
 
 returns-2 : tie.Need-returns-2
-returns-2 c = ap (λ (b : Bool). answer-by b (c .before .before .before .before .get-row .last .1 .1 .0)) (sym (c .if1 .left)) ∙ answer-is (c .before .before .before .before .before .before .before .before .args .settings) (c .before .before .before .before .before .before .before .before .args .part .now) _ _ (c .before .before .before .before .get-row .ensures) (c .before .gatherer-good .ensures)
+returns-2 c = ap (λ (b : Bool). answer-by b (ns (c .before))) (sym (c .if1 .left)) ∙ answer (c .before)
 
 pub read-gatherer-spec : {M : Type 1} → statement M
 read-gatherer-spec =
@@ -78,5 +98,7 @@ read-gatherer-spec =
     array-read-t21
     array-read-t24
     array-read-t27
+    array-read-t31
+    array-read-t35
     returns
     returns-2)

@@ -7,6 +7,7 @@ use borrow.Author.Needs.{needs}
 use borrow.Author.Tests.{eq-eqb}
 use Rattle.numbers.specs.Notation.{refuse_unless_then_}
 use Rattle.numbers.specs.NotationLaws.{and-true}
+use Rattle.reading.specs.Image.{table}
 use Rattle.reading.specs.Restore.{sameBytes}
 use Rattle.bodies.specs.BodiesLaws.{same-equal}
 use Rattle.bodies.proofs.read_table.Statement.{statement}
@@ -41,11 +42,18 @@ slice-aggregate-same c = search needs
 same-requires : tie.Need-same-requires
 same-requires c κs = search needs
 
+-- what `same` answered of the bytes that were written
+answer : (c : tie.After-same) → c .same .result ≡ sameBytes (c .before .before .before .before .before .before .args .part .now) table
+answer c =
+    let at-table = c .before .before .before in
+    let part = at-table .before .before .before .args .part .now in
+    answer-same part _ (c .same .result) (c .same .ensures .0) (c .same .ensures .1) ∙ ap (sameBytes part) (at-table .put-table .ensures)
+
 returns : tie.Need-returns
-returns c = ap number-by (sym (c .if1 .taken) ∙ (answer-same (c .before .before .before .before .before .before .before .args .part .now) _ (c .before .same .result) (c .before .same .ensures .0) (c .before .same .ensures .1) ∙ ap (sameBytes (c .before .before .before .before .before .before .before .args .part .now)) (c .before .before .before .before .put-table .ensures)))
+returns c = ap number-by (sym (c .if1 .taken) ∙ answer (c .before))
 
 returns-2 : tie.Need-returns-2
-returns-2 c = ap number-by (sym (c .if1 .left) ∙ (answer-same (c .before .before .before .before .before .before .before .args .part .now) _ (c .before .same .result) (c .before .same .ensures .0) (c .before .same .ensures .1) ∙ ap (sameBytes (c .before .before .before .before .before .before .before .args .part .now)) (c .before .before .before .before .put-table .ensures)))
+returns-2 c = ap number-by (sym (c .if1 .left) ∙ answer (c .before))
 
 pub read-table-spec : {M : Type 1} → statement M
 read-table-spec =

@@ -2,6 +2,7 @@
 use mathlib.Core.Path.{_≡_, sym, _∙_, ap}
 use mathlib.Core.List.{List}
 use Prim.Native.Nat.{ℕ}
+use native.Mathlib.Omega.{arith}
 use borrow.Author.Needs.{needs}
 use Rattle.numbers.specs.Answers.Answered.{accepted}
 use Rattle.settings.specs.declared.Settings.{Settings}
@@ -85,7 +86,7 @@ module _ (c : tie.After-read-window) where
 
 module _ (c : tie.After-read-detector) where
   abbrev w : tie.After-read-window
-  w = c .before .before .before .before .before
+  w = c .before .before .before .before .before .before
 
   abbrev bytes : List ℕ
   bytes = image (first (g w))
@@ -203,7 +204,7 @@ refused-requires-5 : tie.Need-refused-requires-5
 refused-requires-5 c κs = search needs
 
 returns-5 : tie.Need-returns-5
-returns-5 c = let w = c .before .before .before .before in c .refused5 .ensures ∙ sym (at-window w ∙ ap (after-window w) (c .before .enum-told6 .given .1))
+returns-5 c = let w = c .before .before .before .before .before in c .refused5 .ensures ∙ sym (at-window w ∙ ap (after-window w) (c .before .enum-told6 .given .1))
 
 sub-read-detector : tie.Need-sub-read-detector
 sub-read-detector c = search needs
@@ -212,7 +213,9 @@ part-read-detector-start : tie.Need-part-read-detector-start
 part-read-detector-start c = search needs
 
 part-read-detector-end : tie.Need-part-read-detector-end
-part-read-detector-end c = search needs
+part-read-detector-end c =
+    let at-window = c .before .before .before .before in
+    omega (arith, first (g at-window) .before .before .if1 .left)
 
 read-detector-requires : tie.Need-read-detector-requires
 read-detector-requires c κs = search needs
@@ -233,8 +236,11 @@ returns-7 : tie.Need-returns-7
 returns-7 c =
     let read = c .before in
     let d = read .before .before in
-    let window-is = w d .read-window .ensures .window-is in
-    (λ i. record { after = stateWith (settings (g (w d))) (gatherer (w d)) (read .detector .given .0 .0) (window-is i); answer = accepted tt })
+    let told = w d .read-window .ensures in
+    (λ i. record {
+      after = stateWith (settings (g (w d))) (gatherer (w d)) (read .detector .given .0 .0) (told .window-is i) (told .marks-are i);
+      answer = accepted tt;
+    })
     ∙ sym (at-detector d ∙ ap (after-detector d) (read .detector .given .1))
 
 pub restore-spec : {M : Type 1} → statement M

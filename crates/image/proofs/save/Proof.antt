@@ -78,14 +78,16 @@ returns-2 : tie.Need-returns-2
 returns-2 c =
     let at-put-detector = c .before .before in
     let at-put-values = at-put-detector .before .before .before .before in
-    let at-put-gatherer = at-put-values .before .before .before .before .before .before .before in
+    let at-put-gatherer = at-put-values .before .before .before .before .before .before .before .before .before in
     let at-write = at-put-gatherer .before .before .before .before in
     let at-put-table = at-write .before .before .before .before in
     let first = at-put-table .before .before .before .before .before in
     let start = first .before .before in
     let st = start .args .t1 in
-    let size : length (st .window) ≡ 120 = search needs in
-    long-saved (start .args .image .now) st (first .if1 .left) size _ _ _ _ _ (at-put-table .put-table .ensures) (at-write .write .ensures)
+    let lent = at-put-values .before in
+    let size : length (st .window) ≡ 120 = search (needs, lent .before .before .before .put-values-arg2 .given) in
+    let marks-size : length (st .marks) ≡ 120 = search (needs, lent .before .put-values-arg4 .given) in
+    long-saved (start .args .image .now) st (first .if1 .left) size marks-size _ _ _ _ _ (at-put-table .put-table .ensures) (at-write .write .ensures)
     (at-put-gatherer .put-gatherer .ensures) (at-put-values .put-values .ensures) (at-put-detector .put-detector .ensures)
 
 pub save-spec : {M : Type 1} → statement M

@@ -1,4 +1,4 @@
--- `records::put_ended` meets its contract: of nothing the buffer stays (`placed-none`), and of an event the lent part comes back with its record in place.
+-- `records::put_ended` meets its contract: of nothing the buffer stays (`placed-none`), and else the lent part comes back with the record in place.
 use mathlib.Core.Path.{_≡_, ap}
 use mathlib.Core.List.{List, [], _∷_}
 use Prim.Native.Nat.{ℕ, _+_, _-_, _*_}
@@ -6,7 +6,7 @@ use native.Mathlib.Omega.{arith}
 use lib.ListN.{length, take-append-drop}
 use borrow.Author.Needs.{needs}
 use borrow.Rule.Slice.PartMut.{putMid}
-use Rattle.reading.specs.declared.Event.{Event}
+use Rattle.reading.specs.declared.Record.{Record}
 use Rattle.reading.specs.Records.{recordBytes}
 use Rattle.reading.specs.Layout.{recordLength}
 use Rattle.threshold.specs.declared.Ended.{Ended}
@@ -20,9 +20,9 @@ module _ (at : ℕ) (ended : Ended) (b : List ℕ) where
   placed-none : ended ≡ Nothing → (at ≡ at + recordLength * length (listOf ended)) × (b ≡ placed at (recordBytes (listOf ended)) b)
   placed-none is = rw is (omega arith, rw take-append-drop)
 
-  placed-one : (event : Event) (bytes : List ℕ) → ended ≡ Over event → bytes ≡ recordBytes (event ∷ [])
+  placed-one : (r : Record) (bytes : List ℕ) → ended ≡ Over r → bytes ≡ recordBytes (r ∷ [])
       → (at + recordLength ≡ at + recordLength * length (listOf ended)) × (putMid at (at + recordLength - at) b bytes ≡ placed at (recordBytes (listOf ended)) b)
-  placed-one event bytes is bytes-are =
+  placed-one r bytes is bytes-are =
       let k : at + recordLength - at ≡ recordLength = omega arith in
       rw is (omega arith, rw (k, bytes-are))
 

@@ -1,11 +1,11 @@
 -- Each test that fails breaks the rule; what the tests leave decides it.
-use mathlib.Core.Path.{sym, _∙_}
 use native.Mathlib.Omega.{arith}
 use lib.ListN.{take, drop}
 use borrow.Author.Needs.{needs}
-use Rattle.numbers.specs.Rules.Rule.{allZero}
-use Rattle.numbers.specs.RulesLaws.{broken, decides, passed, holds}
+use Rattle.numbers.specs.Rules.Rule.{_≡ʳ_, _and_, allZero}
+use Rattle.numbers.specs.RulesLaws.{broken}
 use Rattle.reading.specs.Restore.{changeRule, phaseRule}
+use Rattle.rules.proofs.Answers.{left-over}
 use Rattle.rules.proofs.phase_good.Statement.{statement}
 use Rattle.rules.proofs.phase_good.Tie as tie
 
@@ -13,10 +13,12 @@ shared-slice-read-phase : tie.Need-shared-slice-read-phase
 shared-slice-read-phase c = search needs
 
 returns : tie.Need-returns
-returns c = let a = c .before .before .before .args in broken (phaseRule (a .window-length) (a .count) (a .numbers .now)) (λ h. omega (arith, h .0))
+returns c = let a = c .before .before .before .args in broken (phaseRule (a .window-length) (a .count) (a .numbers .now) (a .mark)) (λ h. omega (arith, h .0))
 
 returns-2 : tie.Need-returns-2
-returns-2 c = let a = c .before .before .before .before .before .args in broken (phaseRule (a .window-length) (a .count) (a .numbers .now)) (λ h. omega (arith, h .1 .0 .0 (c .before .if2 .taken)))
+returns-2 c =
+    let a = c .before .before .before .before .before .args in
+    broken (phaseRule (a .window-length) (a .count) (a .numbers .now) (a .mark)) (λ h. omega (arith, h .1 .0 .0 (c .before .if2 .taken)))
 
 sub-change-zero : tie.Need-sub-change-zero
 sub-change-zero c = search needs
@@ -32,12 +34,19 @@ change-zero-requires c κs = search needs
 
 returns-3 : tie.Need-returns-3
 returns-3 c =
-    let a = c .before .before .before .before .before .before .before .args in
-    decides (phaseRule (a .window-length) (a .count) (a .numbers .now)) _ (λ e. (omega arith, ((λ _. omega arith, λ _. c .before .before .before .if2 .taken), (λ z. absurd (omega arith), λ _. holds (allZero (take 4 (drop 1 (a .numbers .now)))) (sym (c .change-zero .ensures) ∙ e)))))
-    (λ h. c .change-zero .ensures ∙ passed (allZero (take 4 (drop 1 (a .numbers .now)))) (h .1 .1 .1 (omega arith)))
+    let zero = c .before .before .before in
+    let a = zero .before .before .before .before .args in
+    left-over
+    (phaseRule (a .window-length) (a .count) (a .numbers .now) (a .mark))
+    (allZero (take 4 (drop 1 (a .numbers .now))) and a .mark ≡ʳ 0)
+    (c .change-zero .ensures)
+    (λ none. (omega arith, ((λ _. omega arith, λ _. zero .if2 .taken), (λ z. absurd (omega arith), λ _. none))))
+    (λ h. h .1 .1 .1 (omega arith))
 
 returns-4 : tie.Need-returns-4
-returns-4 c = let a = c .before .before .before .before .before .args in broken (phaseRule (a .window-length) (a .count) (a .numbers .now)) (λ h. c .before .if2 .left (h .1 .0 .1 (omega arith)))
+returns-4 c =
+    let a = c .before .before .before .before .before .args in
+    broken (phaseRule (a .window-length) (a .count) (a .numbers .now) (a .mark)) (λ h. c .before .if2 .left (h .1 .0 .1 (omega arith)))
 
 sub-change-good : tie.Need-sub-change-good
 sub-change-good c = search needs
@@ -54,8 +63,12 @@ change-good-requires c κs = search needs
 returns-5 : tie.Need-returns-5
 returns-5 c =
     let a = c .before .before .before .before .before .before .before .before .args in
-    decides (phaseRule (a .window-length) (a .count) (a .numbers .now)) _ (λ e. (omega arith, ((λ z. absurd (omega arith), λ z. absurd (omega arith)), (λ _. holds (changeRule (a .window-length) (a .count) (take 4 (drop 1 (a .numbers .now)))) (sym (c .change-good .ensures) ∙ e), λ z. absurd (omega arith)))))
-    (λ h. c .change-good .ensures ∙ passed (changeRule (a .window-length) (a .count) (take 4 (drop 1 (a .numbers .now)))) (h .1 .1 .0 (c .before .before .if5 .taken)))
+    left-over
+    (phaseRule (a .window-length) (a .count) (a .numbers .now) (a .mark))
+    (changeRule (a .window-length) (a .count) (take 4 (drop 1 (a .numbers .now))) (a .mark))
+    (c .change-good .ensures)
+    (λ change. (omega arith, ((λ z. absurd (omega arith), λ z. absurd (omega arith)), (λ _. change, λ z. absurd (omega arith)))))
+    (λ h. h .1 .1 .0 (c .before .before .if5 .taken))
 
 sub-change-zero-2 : tie.Need-sub-change-zero-2
 sub-change-zero-2 c = search needs
@@ -71,9 +84,15 @@ change-zero-requires-2 c κs = search needs
 
 returns-6 : tie.Need-returns-6
 returns-6 c =
-    let a = c .before .before .before .before .before .before .before .before .args in
-    decides (phaseRule (a .window-length) (a .count) (a .numbers .now)) _ (λ e. (omega arith, ((λ z. absurd (c .before .before .before .before .if2 .left z), λ z. absurd (omega arith)), (λ z. absurd (c .before .before .if5 .left z), λ _. holds (allZero (take 4 (drop 1 (a .numbers .now)))) (sym (c .change-zero2 .ensures) ∙ e)))))
-    (λ h. c .change-zero2 .ensures ∙ passed (allZero (take 4 (drop 1 (a .numbers .now)))) (h .1 .1 .1 (omega (arith, c .before .before .if5 .left))))
+    let not-3 = c .before .before in
+    let not-0 = not-3 .before .before in
+    let a = not-0 .before .before .before .before .args in
+    left-over
+    (phaseRule (a .window-length) (a .count) (a .numbers .now) (a .mark))
+    (allZero (take 4 (drop 1 (a .numbers .now))) and a .mark ≡ʳ 0)
+    (c .change-zero2 .ensures)
+    (λ none. (omega arith, ((λ z. absurd (not-0 .if2 .left z), λ z. absurd (omega arith)), (λ z. absurd (not-3 .if5 .left z), λ _. none))))
+    (λ h. h .1 .1 .1 (omega (arith, not-3 .if5 .left)))
 
 pub phase-good-spec : {M : Type 1} → statement M
 phase-good-spec =

@@ -1,18 +1,7 @@
--- The rule on all places, then the rule on the unused ones: the part behind the used places is the window without them.
-use mathlib.Core.Path.{_≡_, sym, _∙_, ap}
-use mathlib.Core.List.{List}
-use Prim.Native.Nat.{ℕ}
-use native.Mathlib.Omega.{arith}
-use lib.ListN.{take, drop}
+-- All places, then the unused ones.
 use borrow.Author.Needs.{needs}
-use Rattle.numbers.specs.Rules.{passes}
-use Rattle.numbers.specs.Rules.Rule.{allUpTo}
-use Rattle.numbers.specs.RulesLaws.{broken, decides, passed, holds, answered-no, answered-yes}
-use Rattle.reading.specs.Restore.{placesRule}
 use Rattle.reading.specs.Restore.{valueMost}
-use lib.ListN.{length, length-drop}
-use lib.Seq.{take-all}
-use Prim.Native.Nat.{_-_, min}
+use Rattle.rules.proofs.Places.{beyond, unused}
 use Rattle.rules.proofs.places_good.Statement.{statement}
 use Rattle.rules.proofs.places_good.Tie as tie
 
@@ -23,7 +12,9 @@ all-up-to-requires : tie.Need-all-up-to-requires
 all-up-to-requires c κs = search needs
 
 returns : tie.Need-returns
-returns c = let a = c .before .before .before .args in broken (placesRule (a .window-length) (a .count) (a .window .now)) (λ h. answered-no (allUpTo valueMost (a .window .now)) (c .before .all-up-to .ensures) (c .if1 .taken) (h .0))
+returns c =
+    let a = c .before .before .before .args in
+    beyond valueMost (a .window-length) (a .count) (a .window .now) (c .before .all-up-to .ensures) (c .if1 .taken)
 
 used-requires : tie.Need-used-requires
 used-requires c κs = search needs
@@ -45,15 +36,19 @@ all-up-to-requires-2 c κs = search needs
 
 returns-2 : tie.Need-returns-2
 returns-2 c =
-    let a = c .before .before .before .before .before .before .args in
-    let count = c .before .before .used in
-    let rest : List ℕ = drop (count .result) (a .window .now) in
-    let lent : take (length (a .window .now) - count .result) rest ≡ rest = take-all (length (a .window .now) - count .result) rest (simp length-drop (omega arith)) in
-    let is : c .all-up-to2 .result ≡ passes (allUpTo 0 (drop (min (a .count) (a .window-length)) (a .window .now))) =
-    c .all-up-to2 .ensures ∙ (ap (λ (l : List ℕ). passes (allUpTo 0 l)) lent ∙ ap (λ (k : ℕ). passes (allUpTo 0 (drop k (a .window .now)))) (count .ensures .0)) in
-    let unused = drop (min (a .count) (a .window-length)) (a .window .now) in
-    decides (placesRule (a .window-length) (a .count) (a .window .now)) _ (λ e. (answered-yes (allUpTo valueMost (a .window .now)) (c .before .before .before .before .all-up-to .ensures) (c .before .before .before .if1 .left), λ i. let h = holds (allUpTo 0 unused) (sym is ∙ e) i in omega arith))
-    (λ h. is ∙ passed (allUpTo 0 unused) (λ i. let z = h .1 i in omega arith))
+    let first = c .before .before .before in
+    let a = first .before .before .before .args in
+    let used = c .before .before .used in
+    unused
+    valueMost
+    (a .window-length)
+    (a .count)
+    (a .window .now)
+    (first .before .all-up-to .ensures)
+    (first .if1 .left)
+    (used .result)
+    (used .ensures .0)
+    (c .all-up-to2 .ensures)
 
 pub places-good-spec : {M : Type 1} → statement M
 places-good-spec =

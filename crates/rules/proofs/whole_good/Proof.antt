@@ -12,7 +12,9 @@ returns : tie.Need-returns
 returns c = let a = c .before .args in sym (passed (wholeRule (flag (a .whole)) (a .count)) (λ z. absurd (omega (arith, ap flag (c .if1 .taken)))))
 
 returns-2 : tie.Need-returns-2
-returns-2 c = let a = c .before .args in decides (wholeRule (flag (a .whole)) (a .count)) _ (λ e _. eqb-true _ 0 e) (λ h. eq-eqb _ 0 (h (ap flag (c .if1 .left))))
+returns-2 c =
+    let a = c .before .args in
+    decides (wholeRule (flag (a .whole)) (a .count)) _ (λ e _. eqb-true _ 0 e) (λ h. eq-eqb _ 0 (h (ap flag (c .if1 .left))))
 
 pub whole-good-spec : {M : Type 1} → statement M
 whole-good-spec = tie.close (tie.spec returns returns-2)

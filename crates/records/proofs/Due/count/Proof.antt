@@ -1,7 +1,7 @@
--- `Due::count` meets its contract: the list has as many events as the four (`length-eventsOf`).
+-- `Due::count` meets its contract: the list has as many events as the four (`length-recordsOf`).
 use native.Mathlib.Omega.{arith}
 use borrow.Author.Needs.{needs}
-use Rattle.records.specs.DueLaws.{length-eventsOf}
+use Rattle.records.specs.DueLaws.{length-recordsOf}
 use Rattle.records.proofs.Due.count.Statement.{statement}
 use Rattle.records.proofs.Due.count.Tie as tie
 
@@ -27,7 +27,7 @@ add-result-3 : tie.Need-add-result-3
 add-result-3 c = search needs
 
 returns : tie.Need-returns
-returns c = omega (arith, length-eventsOf (c .before .before .before .before .args .self))
+returns c = omega (arith, length-recordsOf (c .before .before .before .before .args .self))
 
 pub count-spec : {M : Type 1} → statement M
 count-spec =

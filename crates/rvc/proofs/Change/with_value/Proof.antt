@@ -1,4 +1,4 @@
--- Both numbers that change are their functions'.
+-- What changes is as its functions tell it.
 use borrow.Author.Needs.{needs}
 use Rattle.rvc.proofs.Change.with_value.Statement.{statement}
 use Rattle.rvc.proofs.Change.with_value.Tie as tie
@@ -12,9 +12,12 @@ greatest-requires c κs = search needs
 first-stand-requires : tie.Need-first-stand-requires
 first-stand-requires c κs = search needs
 
+marked-requires : tie.Need-marked-requires
+marked-requires c κs = search needs
+
 returns : tie.Need-returns
-returns c = rw (c .before .greatest .ensures, c .first-stand .ensures, c .before .before .minus .ensures)
+returns c = rw (c .marked .ensures, c .before .first-stand .ensures, c .before .before .greatest .ensures, c .before .before .before .minus .ensures)
 
 pub with-value-spec : {M : Type 1} → statement M
 with-value-spec =
-    tie.close (tie.spec minus-requires greatest-requires first-stand-requires returns)
+    tie.close (tie.spec minus-requires greatest-requires first-stand-requires marked-requires returns)

@@ -1,4 +1,6 @@
 -- The bounds of valid settings let each level and limit be scaled; the five parts are what the calls ensure.
+use mathlib.Core.Path.{_∙_}
+use Prim.Native.Nat.{_-_}
 use borrow.Author.Needs.{needs}
 use Rattle.settings.proofs.Settings.scaled.Statement.{statement}
 use Rattle.settings.proofs.Settings.scaled.Tie as tie
@@ -30,28 +32,36 @@ sub-scaled-limit c = search needs
 scaled-limit-requires-2 : tie.Need-scaled-limit-requires-2
 scaled-limit-requires-2 c κs = search needs
 
+minus-requires : tie.Need-minus-requires
+minus-requires c κs = search needs
+
 returns : tie.Need-returns
 returns c =
-    let swell-made = c .before .before .before .before .before in
-    λ i. record {
-      dip = record { begins = swell-made .before .before .threshold .ensures .0 i; ends = swell-made .before .before .threshold .ensures .1 i };
-      swell = record { begins = swell-made .threshold2 .ensures .0 i; ends = swell-made .threshold2 .ensures .1 i };
-      interruption = record { begins = c .before .before .before .threshold3 .ensures .0 i; ends = c .before .before .before .threshold3 .ensures .1 i };
-      limit = c .before .before .scaled-limit .ensures i;
-      reduced = c .scaled-limit2 .ensures i;
-    }
+    let swell = c .before .before .before .before .before in
+    let dip = swell .before .before in
+    let limit = dip .before .before .scaled-limit .ensures in
+    let reduced = c .before .scaled-limit2 .ensures in
+    let interruption = c .before .before .before .threshold3 .ensures in
+    (λ i. record {
+      dip = record { begins = dip .threshold .ensures .0 i; ends = dip .threshold .ensures .1 i };
+      swell = record { begins = swell .threshold2 .ensures .0 i; ends = swell .threshold2 .ensures .1 i };
+      interruption = record { begins = interruption .0 i; ends = interruption .1 i };
+      limit = limit i;
+      reduction = (c .minus .ensures ∙ (λ k. limit k - reduced k)) i;
+    })
 
 pub scaled-spec : {M : Type 1} → statement M
 scaled-spec =
     tie.close
     (tie.spec
+    scaled-limit-requires
     add-threshold
     threshold-requires
     sub-threshold
     threshold-requires-2
     add-threshold-2
     threshold-requires-3
-    scaled-limit-requires
     sub-scaled-limit
     scaled-limit-requires-2
+    minus-requires
     returns)

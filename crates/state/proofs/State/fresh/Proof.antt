@@ -16,8 +16,8 @@ returns : tie.Need-returns
 unfolding fresh
 returns c =
     let s = c .before .before .args .settings in
-    let is : stateWith s (c .before .new .result) (c .new2 .result) (fresh s .window) ≡ fresh s =
-    λ i. record { settings = s; gatherer = c .before .new .ensures i; detector = c .new2 .ensures i; window = fresh s .window } in
+    let is : stateWith s (c .before .new .result) (c .new2 .result) (fresh s .window) (fresh s .marks) ≡ fresh s =
+    λ i. record { settings = s; gatherer = c .before .new .ensures i; detector = c .new2 .ensures i; window = fresh s .window; marks = fresh s .marks } in
     (is, subst ValidState (sym is) (fresh-valid s (c .before .before .pre)))
 
 pub fresh-spec : {M : Type 1} → statement M

@@ -7,7 +7,7 @@ worse-of-requires : tie.Need-worse-of-requires
 worse-of-requires c κs = search needs
 
 returns : tie.Need-returns
-returns c = rw (c .worse-of .ensures)
+returns c = rw (c .before .worse-of .ensures)
 
 pub with-value-spec : {M : Type 1} → statement M
 with-value-spec = tie.close (tie.spec worse-of-requires returns)

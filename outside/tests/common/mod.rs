@@ -1,0 +1,58 @@
+//! One feed through the engineer, the logger and every host (with the feature, the proved library
+//! too), which must agree in every byte.
+
+// No test uses all of it.
+#![allow(dead_code)]
+
+use outside::engineer::{Engineer, Fed, Looked};
+use outside::hosts::hosts;
+use outside::logger::Logger;
+use outside::rules::IMAGE;
+use outside::waves;
+
+/// The settings called Q: M, F, U, T, H, I, D, W, G.
+pub const Q: [u32; 9] = [8, 50, 1600, 300, 150, 500, 9000, 11_000, 200];
+
+pub fn bytes(settings: [u32; 9]) -> Vec<u8> {
+    settings.iter().flat_map(|x| x.to_le_bytes()).collect()
+}
+
+/// What all of them leave of a feed.
+pub struct Left {
+    pub fed: Fed,
+    pub records: Vec<u8>,
+    pub image: Vec<u8>,
+    pub looked: Looked,
+}
+
+/// Feeds all samples, from the start on.
+pub fn feed(settings: [u32; 9], samples: &[i16], room: usize) -> Left {
+    let mut engineer = Engineer::start(&bytes(settings)).unwrap();
+    let mut logger = Logger::start(&bytes(settings)).unwrap();
+    let (fed, records) = engineer.feed(samples, room);
+    let mut buffer = vec![0; room];
+    let block = waves::bytes(samples);
+    assert_eq!(logger.feed(block.as_chunks::<2>().0, &mut buffer), fed);
+    assert_eq!(buffer[..records.len()], records[..]);
+    assert_eq!(logger.look(), engineer.look());
+    let mut image = [0; IMAGE];
+    logger.save(&mut image).unwrap();
+    assert_eq!(image[..], engineer.image()[..]);
+    for host in hosts() {
+        let (mut fresh, mut image, mut reply) = ([0; IMAGE], [0; IMAGE], [0; 24]);
+        let mut buffer = vec![0; room];
+        assert_eq!((host.begin)(&bytes(settings), &mut fresh), 0);
+        assert_eq!((host.advance)(&fresh, &block, &mut image, &mut buffer, &mut reply), 0);
+        assert_eq!(image[..], engineer.image()[..], "{}", host.name);
+        assert_eq!(buffer[..records.len()], records[..], "{}", host.name);
+        let told = [fed.taken, fed.written, fed.why].map(u64::to_le_bytes).concat();
+        assert_eq!(reply[..], told[..], "{}", host.name);
+    }
+    Left { fed, records, image: engineer.image(), looked: engineer.look() }
+}
+
+/// A record's kind (with its mark in the second byte), start, duration and magnitudes.
+pub fn numbers(record: &[u8]) -> [u32; 5] {
+    let four = |at: usize| u32::from_le_bytes(record[at..at + 4].try_into().unwrap());
+    [0, 4, 8, 12, 16].map(four)
+}
