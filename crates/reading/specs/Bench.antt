@@ -199,13 +199,14 @@ marksIn =
 abbrev pub recordsOf : Settings → List ℤ → List Event
 recordsOf s rec = events s (values s rec)
 
--- the records of a loud recording that is clipped in half-cycle h; the marks of the dip's, and of the change's
+-- the records of a loud recording that is clipped in half-cycle h
 abbrev pub clippedIn : ℕ → List ℤ → List Record
 clippedIn h rec = records (qLoud 400000) (withFirst h (pos 32767) rec)
 
 abbrev pub clippedOf : List Record → List Bool
 clippedOf rs = map (λ r. r .clipped) rs
 
+-- the mark of the dip's record
 abbrev pub dipMarks : ℕ → List Bool
 dipMarks h = clippedOf (clippedIn h loudDip)
 
@@ -213,6 +214,7 @@ dipMarks h = clippedOf (clippedIn h loudDip)
 abbrev pub changeMarkAfter : ℕ → ℕ
 changeMarkAfter h = let rec = take (h * 8) (loudChange 152) in changeMark (qLoud 524256) (marks (qLoud 524256) rec (h - 1)) (signal (qLoud 524256) (values (qLoud 524256) rec))
 
+-- and of its record, where half-cycle h is
 abbrev pub changeMarks : ℕ → List Bool
 changeMarks h = clippedOf (recordsAt (qLoud 524256) (loudChange h) 252)
 

@@ -120,7 +120,8 @@ module _ (s : Settings) (r : ℕ) (older : List ℕ) (clipped : Bool) (ms : List
   none false = refl
 
   ended-on : (p : Signal) → ValidSignal n (length older) p →
-      listOf (movedBy n (joiningNewest s r older ms) (steadyOn (phaseOn s older ms p)) (phaseOn s older ms p) .ended) ≡ map (recordOf (flag clipped ∷ ms)) (changeOver s (r ∷ older) p (next s (r ∷ older) p))
+      listOf (movedBy n (joiningNewest s r older ms) (steadyOn (phaseOn s older ms p)) (phaseOn s older ms p) .ended)
+      ≡ map (recordOf (flag clipped ∷ ms)) (changeOver s (r ∷ older) p (next s (r ∷ older) p))
   ended-on filling h = none (steadyOn Filling)
   ended-on unsettled h = none (steadyOn Unsettled)
   ended-on steady h = none (steadyOn Steady)

@@ -31,7 +31,7 @@ pub struct Sums {
     pub marks: u64,
 }
 
-// The mark of that value joins the window's marks.
+// A value's mark joins the window's marks, as the value joins the window by `push`.
 fn shift_marks(marks: &mut [u8], window_length: usize, count: usize, mark: u8)
     requires { ⌜ (0 < «window_length») × («window_length» ≤ length (now marks)) ⌝ }
     ensures { λ _. ⌜ now (marks .exit) ≡ pushed «window_length» count (now (marks .entry)) mark ⌝ }
