@@ -21,10 +21,14 @@
 // restore of another prints `none`. A gather with a half-cycle of 0 samples or of more than 256 is skipped, and so is an item of another kind in a list. The
 // program ends with the input, or where a start should stand and does not.
 use bodies::IMAGE_LENGTH;
-use libc::STDIN_FILENO;
-use libc::STDOUT_FILENO;
+use call_items::FEED;
+use call_items::Item;
+use call_items::LISTS;
+use call_items::LOOK;
+use call_items::MOST;
+use call_items::MOST_SAMPLES;
+use call_items::START;
 use logger::Logger;
-use reading::Told;
 use rms::Gathered;
 use rms::Gatherer;
 use settings::Settings;
@@ -36,12 +40,6 @@ ghost use Rattle.rms.specs.Gather.{gathered, ValidGatherer};
 ghost use Rattle.state.specs.State.{ValidState};
 ghost use Rattle.reading.specs.Layout.{imageLength};
 
-const START: u8 = 0;
-
-const FEED: u8 = 1;
-
-const LOOK: u8 = 2;
-
 const SAVE: u8 = 3;
 
 const RESTORE_SAVE: u8 = 4;
@@ -50,28 +48,8 @@ const RESTORE_BYTES: u8 = 5;
 
 const GATHER: u8 = 6;
 
-// No item: the input ends.
-const NOTHING: u8 = 255;
-
-const HEAD: usize = 6;
-
-// The most bytes that follow, and the longest buffer that is lent.
-const MOST: usize = 65535;
-
-const MOST_SAMPLES: usize = 32767;
-
 // The saves that are kept of a list.
 const PLACES: usize = 16;
-
-// The lists that are made, at most.
-const LISTS: u32 = 1_000_000;
-
-struct Item {
-    kind: u8,
-    fill: u8,
-    number: u16,
-    length: u16,
-}
 
 // What the calls of a list leave: the logger, and how many of its saves are kept.
 struct List {
@@ -85,125 +63,15 @@ struct Counted {
     halves: usize,
 }
 
-fn no_item() -> Item {
-    Item {
-        kind: NOTHING,
-        fill: 0,
-        number: 0,
-        length: 0,
-    }
-}
-
-// The next item, with the bytes that follow it at the start of `bytes`.
-fn next_item(bytes: &mut [u8]) -> Item
-    requires { ⌜ 65535 ≤ length (now bytes) ⌝ }
-{
-    let mut head = [0u8; HEAD];
-    if io::read_full(STDIN_FILENO, &mut head) < HEAD {
-        return no_item();
-    }
-    let count = octets::get_u16(&head, 4);
-    let length = count as usize;
-    if io::read_full(STDIN_FILENO, &mut bytes[..length]) < length {
-        return no_item();
-    }
-    Item {
-        kind: head[0],
-        fill: head[1],
-        number: octets::get_u16(&head, 2),
-        length: count,
-    }
-}
-
-fn print_word(word: &[u8]) {
-    io::write_all(STDOUT_FILENO, word);
-}
-
-fn print_number(number: u64) {
-    io::write_all(STDOUT_FILENO, b" ");
-    io::print_decimal(STDOUT_FILENO, number);
-}
-
-fn print_mark(mark: bool) {
-    if mark {
-        print_number(1);
-    } else {
-        print_number(0);
-    }
-}
-
-fn end_line() {
-    io::write_all(STDOUT_FILENO, b"\n");
-}
-
-// A line of a word and a number.
-fn print_answer(word: &[u8], number: u64) {
-    print_word(word);
-    print_number(number);
-    end_line();
-}
-
-// A digit in base sixteen.
-fn digit(number: u8) -> u8
-    requires { ⌜ number < 16 ⌝ }
-{
-    if number < 10 {
-        b'0' + number
-    } else {
-        b'a' + (number - 10)
-    }
-}
-
-// Two digits for each byte.
-fn put_hex(text: &mut [u8], bytes: &[u8])
-    requires { ⌜ 2 * length (now bytes) ≤ length (now text) ⌝ }
-{
-    let mut i = 0;
-    while i < bytes.len() {
-        let at = 2 * i;
-        let byte = bytes[i];
-        text[at] = digit(byte / 16);
-        text[at + 1] = digit(byte % 16);
-        i += 1;
-    }
-}
-
-// Bytes in base sixteen, and the line's end.
-fn print_bytes(bytes: &[u8])
-    requires { ⌜ length (now bytes) ≤ 65535 ⌝ }
-{
-    let mut text = [0u8; 2 * MOST];
-    let end = 2 * bytes.len();
-    put_hex(&mut text, bytes);
-    io::write_all(STDOUT_FILENO, b" ");
-    io::write_all(STDOUT_FILENO, &text[..end]);
-    end_line();
-}
-
-fn set_all(buffer: &mut [u8], byte: u8) {
-    let mut i = 0;
-    while i < buffer.len() {
-        buffer[i] = byte;
-        i += 1;
-    }
-}
-
-fn print_told(told: Told) {
-    print_word(b"feed");
-    print_number(told.taken as u64);
-    print_number(told.written as u64);
-    print_number(told.why as u64);
-}
-
 fn feed_block(logger: Logger, block: &[i16], records: &mut [u8], fill: u8) -> Logger
     requires { ⌜ ValidState (logger .state) × (length (now records) ≤ 65535) ⌝ }
     ensures { λ r. ⌜ ValidState (r .state) ⌝ }
 {
-    set_all(records, fill);
+    call_items::set_all(records, fill);
     let fed = logger.feed(block, records);
     let told = fed.told;
-    print_told(told);
-    print_bytes(records);
+    call_items::print_told(told);
+    call_items::print_bytes(records);
     fed.logger
 }
 
@@ -224,15 +92,15 @@ fn look(logger: Logger)
     requires { ⌜ ValidState (logger .state) ⌝ }
 {
     let readings = logger.look();
-    print_word(b"look");
-    print_number(readings.count);
-    print_number(readings.value);
-    print_number(readings.sum);
-    print_number(readings.phase as u64);
-    print_mark(readings.dip);
-    print_mark(readings.swell);
-    print_mark(readings.interruption);
-    end_line();
+    call_items::print_word(b"look");
+    call_items::print_number(readings.count);
+    call_items::print_number(readings.value);
+    call_items::print_number(readings.sum);
+    call_items::print_number(readings.phase as u64);
+    call_items::print_mark(readings.dip);
+    call_items::print_mark(readings.swell);
+    call_items::print_mark(readings.interruption);
+    call_items::end_line();
 }
 
 fn copy(to: &mut [u8], from: &[u8])
@@ -267,11 +135,11 @@ fn save(logger: Logger, image: &mut [u8], fill: u8, saves: &mut [u8], kept: usiz
     requires { ⌜ (length (now image) ≤ 65535) × (length (now saves) ≡ 16 * imageLength) × (kept ≤ 16) ⌝ }
     ensures { λ r. ⌜ r ≤ 16 ⌝ }
 {
-    set_all(image, fill);
+    call_items::set_all(image, fill);
     let number = logger.save(image);
-    print_word(b"save");
-    print_number(number as u64);
-    print_bytes(image);
+    call_items::print_word(b"save");
+    call_items::print_number(number as u64);
+    call_items::print_bytes(image);
     if 0 < number {
         return kept;
     }
@@ -284,7 +152,7 @@ fn restore(logger: Logger, bytes: &[u8]) -> Logger
 {
     let resumed = logger.restore(bytes);
     let answer = resumed.answer;
-    print_answer(b"restore", answer.number() as u64);
+    call_items::print_answer(b"restore", answer.number() as u64);
     resumed.logger
 }
 
@@ -297,7 +165,7 @@ fn restore_save(logger: Logger, saves: &[u8], kept: usize, which: usize) -> Logg
         let end = start + IMAGE_LENGTH;
         return restore(logger, &saves[start..end]);
     }
-    print_word(b"none\n");
+    call_items::print_word(b"none\n");
     logger
 }
 
@@ -360,16 +228,16 @@ fn gather_parts(half_length: u32, samples: &[i16]) -> Counted
 }
 
 fn print_counted(word: &[u8], counted: Counted) {
-    print_word(word);
+    call_items::print_word(word);
     let gatherer = counted.gatherer;
-    print_number(gatherer.count as u64);
-    print_number(gatherer.sum);
-    print_number(gatherer.last);
-    print_mark(gatherer.whole);
-    print_mark(gatherer.clipped);
-    print_mark(gatherer.last_clipped);
-    print_number(counted.halves as u64);
-    end_line();
+    call_items::print_number(gatherer.count as u64);
+    call_items::print_number(gatherer.sum);
+    call_items::print_number(gatherer.last);
+    call_items::print_mark(gatherer.whole);
+    call_items::print_mark(gatherer.clipped);
+    call_items::print_mark(gatherer.last_clipped);
+    call_items::print_number(counted.halves as u64);
+    call_items::end_line();
 }
 
 // Gathers the samples of these bytes both ways.
@@ -445,7 +313,7 @@ fn make_calls(logger: Logger, calls: u16)
     let mut list = List { logger, kept: 0 };
     let mut left = calls;
     while 0 < left {
-        let item = next_item(&mut bytes);
+        let item = call_items::next_item(&mut bytes);
         let length = item.length as usize;
         list = make_call(list, item, &bytes[..length], &mut space, &mut saves);
         left -= 1;
@@ -456,10 +324,10 @@ fn make_calls(logger: Logger, calls: u16)
 fn make_list(settings: &[u8], calls: u16) {
     match Settings::from_bytes(settings) {
         SettingsRead::Read(settings) => {
-            print_word(b"start\n");
+            call_items::print_word(b"start\n");
             make_calls(Logger::fresh(settings), calls);
         }
-        SettingsRead::Refused(number) => print_answer(b"refused", number as u64),
+        SettingsRead::Refused(number) => call_items::print_answer(b"refused", number as u64),
     }
 }
 
@@ -467,7 +335,7 @@ fn main() {
     let mut bytes = [0u8; MOST];
     let mut left = LISTS;
     while 0 < left {
-        let item = next_item(&mut bytes);
+        let item = call_items::next_item(&mut bytes);
         if item.kind != START {
             return;
         }

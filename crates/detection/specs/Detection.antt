@@ -23,8 +23,9 @@ use Rattle.window.specs.Window.{pushed, ValidWindow}
 use Rattle.records.specs.declared.Due.{Due}
 use Rattle.records.specs.Due.{recordsOf}
 use Rattle.rvc.specs.declared.Phase.the-variants.{Filling}
-use Rattle.rvc.specs.Phase.{movedAfter, phaseOf, ValidPhase}
+use Rattle.rvc.specs.Phase.{joiningOf, movedAfter, phaseOf, ValidPhase}
 use Rattle.detection.specs.declared.Detector.{Detector}
+use Rattle.detection.specs.declared.Joined.{Joined}
 use Rattle.detection.specs.declared.Tried.{Tried}
 
 abbrev pub noValue : Detector
@@ -67,10 +68,15 @@ dueBy s x d w ms =
 unfoldable pub dueAt : Settings → Marked → Detector → List ℕ → List ℕ → List Record
 dueAt s x d w ms = recordsOf (dueBy s x d w ms)
 
--- both, with the sums of the window after it
+-- the sums of a window and its marks; and a value x that joins one of n after v others, with the sums after it
 abbrev pub sumsOf : List ℕ → List ℕ → Sums
 sumsOf w ms = record { values = sum w; marks = sum ms }
 
+abbrev pub joinedOf : ℕ → ℕ → List ℕ → List ℕ → Marked → Bool → Joined
+joinedOf n v w ms x stands =
+    record { joining = joiningOf n v w ms (x .value) stands; sums = sumsOf (pushed n v w (x .value)) (pushed n v ms (flag (x .clipped))) }
+
+-- the detector after a value, the records due at it, and the sums of the window with it
 abbrev pub triedBy : Settings → Marked → Detector → List ℕ → List ℕ → Tried
 triedBy s x d w ms =
     let n = windowLength s in
@@ -97,13 +103,17 @@ pub record ValidDetector (n : ℕ) (d : Detector) : Type 0 where
   pub interruption-valid : ValidStanding (d .count) (d .interruption)
   pub phase-valid : ValidPhase n (d .count) (d .phase)
 
--- what the code's step needs: t is scaled from the settings, and a are the sums of the window
+-- what a value x needs of the window of n that it joins after v others: a are the sums of the window w and its marks ms
+pub record WindowReady (n v : ℕ) (w ms : List ℕ) (a : Sums) (x : Marked) : Type 0 where
+  pub window-valid : ValidWindow valueMost n v w
+  pub marks-valid : ValidWindow 1 n v ms
+  pub sums-are : a ≡ sumsOf w ms
+  pub value-le : x .value ≤ 524288
+
+-- what the code's step needs: t is scaled from the settings
 pub record TryReady (s : Settings) (t : Scaled) (d : Detector) (w ms : List ℕ) (a : Sums) (x : Marked) : Type 0 where
   pub settings-valid : ValidSettings s
   pub scaled-is : t ≡ scaledOf s
-  pub window-valid : ValidWindow valueMost (windowLength s) (d .count) w
-  pub marks-valid : ValidWindow 1 (windowLength s) (d .count) ms
+  pub window-ready : WindowReady (windowLength s) (d .count) w ms a x
   pub detector-valid : ValidDetector (windowLength s) d
-  pub sums-are : a ≡ sumsOf w ms
-  pub value-le : x .value ≤ 524288
   pub count-lt : d .count < lastValue

@@ -32,7 +32,7 @@ module _ (s : Settings) (r : ℕ) (older : List ℕ) (clipped : Bool) (ms : List
   x = record { value = r; clipped = clipped }
 
   steps : (k : Kind) → stepped k (suc (length older)) r clipped (begins s k r) (ends s k r) (standingOf s k older ms) ≡ standingOf s k (r ∷ older) now
-  steps k = follows s k r older clipped ms beside
+  steps k = follows k r older clipped ms beside s
 
   pub detector-follows : detectorAfter s x (detectorOf s older ms) (windowOf (windowLength s) older) (windowOf (windowLength s) ms) ≡ detectorOf s (r ∷ older) now
   unfolding detectorAfter
@@ -40,7 +40,7 @@ module _ (s : Settings) (r : ℕ) (older : List ℕ) (clipped : Bool) (ms : List
 
   ended : (k : Kind) →
       listOf (endedAt (kindNumber k) (suc (length older)) (standingOf s k older ms) (standingOf s k (r ∷ older) now)) ≡ map (recordOf now) (thresholdDue s k (r ∷ older))
-  ended k = standing-ended s k r older clipped ms beside
+  ended k = standing-ended k r older clipped ms beside s
 
   pub due-follows : dueAt s x (detectorOf s older ms) (windowOf (windowLength s) older) (windowOf (windowLength s) ms) ≡ map (recordOf now) (due s (r ∷ older))
   unfolding dueBy dueAt

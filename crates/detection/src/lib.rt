@@ -8,15 +8,18 @@ use rvc::Moved;
 use rvc::Phase;
 use settings::Scaled;
 use settings::Settings;
+use settings::Threshold;
 use threshold::Standing;
 use window::Sums;
 ghost use mathlib.Core.Path.{_≡_};
 ghost use Prim.Native.Nat.{_≤_, _<_};
 ghost use lib.ListN.{length};
 ghost use Rattle.numbers.specs.Notation.{_<ᵇ_, if_then_else_};
+ghost use Rattle.threshold.specs.Standing.{beginsAt, endsAt, stepped};
 ghost use Rattle.window.specs.Window.{leaving as leavingOf, staying};
+ghost use Rattle.reading.specs.Feed.{lastValue};
 ghost use Rattle.rvc.specs.Phase.{movedOn, Joins};
-ghost use Rattle.detection.specs.Detection.{noValue, standsAt, triedBy, TryReady};
+ghost use Rattle.detection.specs.Detection.{noValue, standsAt, joinedOf, triedBy, WindowReady, TryReady};
 
 // What is kept of the values beside the window: their count, the events that stand, and the phase.
 pub struct Detector {
@@ -34,15 +37,37 @@ pub struct Tried {
     pub sums: Sums,
 }
 
+// A value as it joins a window, and the sums of the window with it.
+pub struct Joined {
+    pub joining: Joining,
+    pub sums: Sums,
+}
+
+// An event of a kind after value i, by the kind's levels.
+fn standing_after(before: Standing, kind: Kind, level: Threshold, i: u64, value: Marked) -> Standing
+    requires { ⌜ value .value ≤ 524288 ⌝ }
+    ensures { λ r. ⌜ r ≡ stepped kind i (value .value) (value .clipped) (beginsAt kind level (value .value)) (endsAt kind level (value .value)) before ⌝ }
+{
+    let wide = value.value as u64;
+    before.step(
+        kind,
+        i,
+        wide,
+        value.clipped,
+        threshold::begins(kind, level, wide),
+        threshold::ends(kind, level, wide),
+    )
+}
+
 // Whether a dip or a swell first stands at value i.
-fn stands_at(i: u64, dip: Standing, swell: Standing) -> bool
+pub fn stands_at(i: u64, dip: Standing, swell: Standing) -> bool
     ensures { λ b. ⌜ b ≡ standsAt i dip swell ⌝ }
 {
     (dip.start == i) | (swell.start == i)
 }
 
 // Where the values begin that stay in the window when one more comes after `count` of them.
-fn first_staying(count: u64, window_length: u64) -> usize
+pub fn first_staying(count: u64, window_length: u64) -> usize
     ensures { λ r. ⌜ (r ≡ (if count <ᵇ «window_length» then 0 else 1)) × (r ≤ 1) ⌝ }
 {
     if count < window_length { 0 } else { 1 }
@@ -68,6 +93,41 @@ fn leaving_mark(count: u64, window_length: u64, marks: &[u8]) -> u64
         return 0;
     }
     marks[0] as u64
+}
+
+// A value that joins a window after `count` others, worked out from the window before it, its marks and its sums.
+pub fn join_window(
+    window_length: u64,
+    count: u64,
+    window: &[u32],
+    marks: &[u8],
+    sums: Sums,
+    value: Marked,
+    stands: bool,
+) -> Joined
+    requires { ⌜ (0 < «window_length») × («window_length» ≤ 120) × (count < lastValue) × WindowReady «window_length» count (now window) (now marks) sums value ⌝ }
+    ensures { λ r. ⌜ r ≡ joinedOf «window_length» count (now (window .entry)) (now (marks .entry)) value stands ⌝ }
+{
+    let leaving = leaving_value(count, window_length, window);
+    let mark = leaving_mark(count, window_length, marks);
+    let after = sums.values - leaving + value.value as u64;
+    let marked = sums.marks - mark + numbers::flag(value.clipped) as u64;
+    let joining = Joining {
+        number: count + 1,
+        value: value.value,
+        leaving,
+        mark,
+        before: sums.values,
+        after,
+        stands,
+    };
+    Joined {
+        joining,
+        sums: Sums {
+            values: after,
+            marks: marked,
+        },
+    }
 }
 
 impl Detector {
@@ -118,24 +178,27 @@ impl Detector {
         ensures { λ t. ⌜ t ≡ triedBy settings value self (now (window .entry)) (now (marks .entry)) ⌝ }
     {
         let i = self.count + 1;
-        let wide = value.value as u64;
-        let clipped = value.clipped;
-        let dip = self.dip.step(Kind::Dip, scaled.dip, i, wide, clipped);
-        let swell = self.swell.step(Kind::Swell, scaled.swell, i, wide, clipped);
-        let interruption = self.interruption
-            .step(Kind::Interruption, scaled.interruption, i, wide, clipped);
+        let dip = standing_after(self.dip, Kind::Dip, scaled.dip, i, value);
+        let swell = standing_after(self.swell, Kind::Swell, scaled.swell, i, value);
+        let interruption = standing_after(
+            self.interruption,
+            Kind::Interruption,
+            scaled.interruption,
+            i,
+            value,
+        );
         let window_length = settings.window_length();
-        let leaving = leaving_value(self.count, window_length, window);
-        let leaving_mark = leaving_mark(self.count, window_length, marks);
-        let joining = Joining {
-            number: i,
-            value: value.value,
-            leaving,
-            mark: leaving_mark,
-            before: sums.values,
-            after: sums.values - leaving + wide,
-            stands: stands_at(i, dip, swell),
-        };
+        let stands = stands_at(i, dip, swell);
+        let joined = join_window(
+            window_length,
+            self.count,
+            window,
+            marks,
+            sums,
+            value,
+            stands,
+        );
+        let joining = joined.joining;
         let moved = self.phase_after(scaled, window_length, window, joining);
         let phase = moved.phase;
         let change = moved.ended;
@@ -153,14 +216,7 @@ impl Detector {
                 .ended(Event::INTERRUPTION, i, interruption),
             change,
         };
-        let marked = sums.marks - leaving_mark + numbers::flag(clipped) as u64;
-        Tried {
-            after,
-            due,
-            sums: Sums {
-                values: joining.after,
-                marks: marked,
-            },
-        }
+        let sums = joined.sums;
+        Tried { after, due, sums }
     }
 }

@@ -6,7 +6,7 @@ use mathlib.Core.List.{List, [], _∷_}
 use Prim.Native.Nat.{ℕ, suc, _+_, _-_, _*_, _≤_, _<_}
 use native.Mathlib.Omega.{arith}
 use lib.ListN.{length, take, drop, length-drop}
-use lib.Seq.{take-all, drop-drop}
+use lib.Seq.{drop-drop}
 use lib.IntN.{ℤ}
 use borrow.Author.Tests.{ltb-false, eqb-true}
 use Rattle.numbers.specs.Notation.{_<ᵇ_, _≡ᵇ_, if_then_else_}
@@ -24,11 +24,14 @@ use Rattle.rms.specs.GatherLaws.{value-none, value-one}
 use Rattle.detection.specs.Detection.{detectorAfter}
 use Rattle.greedy.specs.Greedy.{Run, fedBy}
 use Rattle.greedy.specs.GreedyLaws.{byFirst}
+use Rattle.greedy.specs.Cutter.{endsHalf}
+use Rattle.greedy.specs.ProgressLaws.{lent-behind}
+use Rattle.greedy.specs.ToldLaws.{ToldWithin}
 use Rattle.state.specs.declared.State.{State}
 use Rattle.state.specs.State.{ValidState}
-use Rattle.state.specs.Step.{partJoined, valueOut, passesEnd, halfJoined, endsHalf, machine}
+use Rattle.state.specs.Step.{partJoined, valueOut, passesEnd, halfJoined, cutter, machine}
 use Rattle.state.specs.Calls.{fedWith}
-use Rattle.state.specs.CallsLaws.{ToldWithin, fedWith-within}
+use Rattle.state.specs.CallsLaws.{fedWith-within}
 use Rattle.logger.specs.declared.Logger.{Logger}
 use Rattle.logger.specs.Logger.{fedTo}
 use Rattle.event_log.specs.declared.FedAll.{FedAll}
@@ -71,10 +74,10 @@ toFeed xs at why = length xs - at + (if why ≡ᵇ 1 then 1 else 0)
 module _ (xs : List ℤ) (at : ℕ) (lent : List ℕ) (st : State) {end : State} {told : Told} {out : List ℕ}
     (fed : fedTo end told out ≡ fedWith st (take (length xs - at) (drop at xs)) lent) where
   fed-is : fedTo end told out ≡ fedWith st (drop at xs) lent
-  fed-is = fed ∙ ap (λ (b : List ℤ). fedWith st b lent) (take-all (length xs - at) (drop at xs) (omega (arith, length-drop at xs)))
+  fed-is = fed ∙ ap (λ (b : List ℤ). fedWith st b lent) (lent-behind at xs)
 
-  within : ToldWithin (drop at xs) lent told
-  within = subst⁻¹ (ToldWithin (drop at xs) lent) (ap (λ (o : Outcome State). o .told) fed-is) (fedWith-within st (drop at xs) lent)
+  within : ToldWithin 4 (drop at xs) lent told
+  within = subst⁻¹ (ToldWithin 4 (drop at xs) lent) (ap (λ (o : Outcome State). o .told) fed-is) (fedWith-within st (drop at xs) lent)
 
   pub turn-fits : recordLength * told .written ≤ length lent
   turn-fits = within .fits
@@ -108,7 +111,7 @@ InHalf st = (st .settings .samples ≤ 256) × (st .gatherer .count < st .settin
 
 left-next : (st : State) (x : ℤ) → InHalf st → machine .atEnd st x ≡ false → InHalf (machine .next st x) × (left (machine .next st x) < left st)
 unfolding passesEnd halfJoined detectorAfter
-left-next st x inside = go (endsHalf st x) refl
+left-next st x inside = go (endsHalf cutter st x) refl
   where
     p : Part
     p = partOf (x ∷ [])
@@ -125,7 +128,7 @@ left-next st x inside = go (endsHalf st x) refl
         let one = value-one m (st .gatherer) p w in
         rw one ((inside .0, omega arith), omega (arith, ap length one, ltb-false lastValue (length (valueOut st p) + st .detector .count) below))
 
-    go : (b : Bool) → endsHalf st x ≡ b → (if b then passesEnd st p else false) ≡ false → Less (if b then halfJoined st p else partJoined st p)
+    go : (b : Bool) → endsHalf cutter st x ≡ b → (if b then passesEnd st p else false) ≡ false → Less (if b then halfJoined st p else partJoined st p)
     go true e below = half (st .gatherer .whole) refl below
     go false e below = let more = next-below m (st .gatherer) (inside .1) x e in ((inside .0, more), omega arith)
 

@@ -1,4 +1,2 @@
-pub mod Text
-pub mod TextLaws
 pub mod FedAll
 pub mod FedAllLaws

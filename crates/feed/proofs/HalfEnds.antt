@@ -41,11 +41,13 @@ module _ {s : Settings} {t : Scaled} {g : Gatherer} {d : Detector} {a : Sums} {w
   ready x small more = record {
     settings-valid = pre .valid .settings-valid;
     scaled-is = pre .scaled-is;
-    window-valid = pre .valid .window-valid;
-    marks-valid = pre .valid .marks-valid;
+    window-ready = record {
+      window-valid = pre .valid .window-valid;
+      marks-valid = pre .valid .marks-valid;
+      sums-are = pre .sums-are;
+      value-le = small;
+    };
     detector-valid = pre .valid .detector-valid;
-    sums-are = pre .sums-are;
-    value-le = small;
     count-lt = omega (arith, more, pre .valid .count-le);
   }
 

@@ -1,16 +1,13 @@
 -- The walk over a block: what is fed so far, and the cut of what is left. A turn takes one half-cycle more; the walk ends with one that is not taken, or with
 -- the rest.
 use mathlib.Core.Path.{_≡_, refl, sym, _∙_, ap, subst}
-use mathlib.Core.Bool.{Bool, true, false}
+use mathlib.Core.Bool.{true, false}
 use mathlib.Core.List.{List, [], _++_}
 use Prim.Native.Nat.{ℕ, zero, suc, _+_, _-_, _*_, _^_, _≤_, _<_}
 use native.Mathlib.Omega.{arith}
 use lib.ListN.{length, take, drop, length-drop, take-append-drop}
-use lib.Seq.{length-take-le, take-all}
 use lib.IntN.{ℤ}
-use borrow.Author.Tests.{ltb-false}
 use borrow.Rule.Slice.PartMut.{putMid}
-use Rattle.numbers.specs.Notation.{_<ᵇ_, if_then_else_}
 use Rattle.settings.specs.declared.Settings.{Settings}
 use Rattle.settings.specs.declared.Scaled.{Scaled}
 use Rattle.settings.specs.Settings.{scaledOf}
@@ -26,26 +23,21 @@ use Rattle.window.specs.declared.Sums.{Sums}
 use Rattle.detection.specs.declared.Detector.{Detector}
 use Rattle.detection.specs.Detection.{sumsOf}
 use Rattle.greedy.specs.Greedy.{fedBy}
+use Rattle.greedy.specs.CutterLaws.{taken-if, feed-taken, feed-stops, feed-rest}
+use Rattle.greedy.specs.ProgressLaws.{Progress, progress-none, progress-more, progress-last, part-long, lent-behind, back-behind}
 use Rattle.state.specs.declared.State.{State}
 use Rattle.state.specs.State.{stateWith, ValidState}
 use Rattle.state.specs.Step.{halfDue, halfJoined, partJoined, passesEnd, whyNot, machine}
-use Rattle.state.specs.StepLaws.{feed-taken, feed-stops, feed-rest}
+use Rattle.state.specs.StepLaws.{cuts}
 use Rattle.state.specs.StepValid.{halfJoined-valid, partJoined-valid}
 use Rattle.state.specs.Calls.{fedWith}
-use Rattle.state.specs.ProgressLaws.{Progress, progress-none, progress-more, progress-last, lent-behind, back-behind}
 use Rattle.feed.specs.declared.Half.{Half}
 use Rattle.feed.specs.declared.Walked.{Walked}
 use Rattle.feed.specs.Feed.{HalfReady, HalfOutcome, halfBy, halfOutcome, halfOf, walkedOf, walkedWith}
 
--- parts of a block, as the code takes them
-pub rest-is : (at : ℕ) (block : List ℤ) → take (length block - at) (drop at block) ≡ drop at block
-rest-is at block = take-all (length block - at) (drop at block) (omega (arith, length-drop at block))
-
+-- a part of a block, as the code takes it
 part-of : (at n k : ℕ) (block : List ℤ) → k ≡ n → partOf (take k (drop at block)) ≡ partOf (take n (drop at block))
 part-of at n k block e = ap (λ (j : ℕ). partOf (take j (drop at block))) e
-
-part-long : (at n : ℕ) (block : List ℤ) → at + n ≤ length block → length (take n (drop at block)) ≡ n
-part-long at n block h = length-take-le n (drop at block) (omega (arith, length-drop at block))
 
 -- what a taken half-cycle gives, and one that is not
 half-taken : (y : ℕ) (o : HalfOutcome) (st : State) (p : Part) (lent : List ℕ) → o ≡ halfBy y st p lent → o .why ≡ 0 → (y ≡ 0) × (o ≡ halfBy 0 st p lent)
@@ -55,11 +47,6 @@ half-taken (suc y) o st p lent e none = absurd (omega (arith, ap (λ (k : HalfOu
 half-refused : (y : ℕ) (o : HalfOutcome) (st : State) (p : Part) (lent : List ℕ) → o ≡ halfBy y st p lent → 0 < o .why → (o .why ≡ y) × (o .after ≡ st) × (o .bytes ≡ lent)
 half-refused zero o st p lent e some = absurd (omega (arith, ap (λ (k : HalfOutcome). k .why) e))
 half-refused (suc y) o st p lent e some = (ap (λ (k : HalfOutcome). k .why) e, ap (λ (k : HalfOutcome). k .after) e, ap (λ (k : HalfOutcome). k .bytes) e)
-
-no-why : (past full : Bool) → _≡_ {A = ℕ} (if past then 2 else if full then 1 else 0) 0 → (past ≡ false) × (full ≡ false)
-no-why true full e = absurd (omega arith)
-no-why false true e = absurd (omega arith)
-no-why false false e = (refl, refl)
 
 -- what `end_walk` gives
 abbrev pub WalkEnds : Gatherer → Detector → List ℤ → ℕ → ℕ → ℕ → Walked → Type 0
@@ -75,7 +62,7 @@ module _ (s : Settings) (w₀ ms₀ : List ℕ) (block : List ℤ) (lent : List 
   first = stateWith s g₀ d₀ w₀ ms₀
 
   pub record Walking (w ms out : List ℕ) (g : Gatherer) (d : Detector) (sums : Sums) (at written : ℕ) (share : Share) : Type 0 where
-    pub so-far : Progress first block lent (stateWith s g d w ms) at written out
+    pub so-far : Progress machine ValidState first block lent (stateWith s g d w ms) at written out
     pub sums-are : sums ≡ sumsOf w ms
     pub within : Within (s .samples) g (drop at block) share
     pub share-is : share ≡ cut (s .samples) g (drop at block)
@@ -87,7 +74,7 @@ module _ (s : Settings) (w₀ ms₀ : List ℕ) (block : List ℤ) (lent : List 
     pub samples-most : s .samples ≤ 256
     pub sum-le : g .sum ≤ g .count * 2 ^ 30
 
-  walking : (w ms out : List ℕ) (g : Gatherer) (d : Detector) (sums : Sums) (at written : ℕ) (share : Share) → Progress first block lent (stateWith s g d w ms) at written out →
+  walking : (w ms out : List ℕ) (g : Gatherer) (d : Detector) (sums : Sums) (at written : ℕ) (share : Share) → Progress machine ValidState first block lent (stateWith s g d w ms) at written out →
       sums ≡ sumsOf w ms → share ≡ cut (s .samples) g (drop at block) → length out ≡ length lent → length w ≡ length w₀ → length ms ≡ length ms₀ →
       Walking w ms out g d sums at written share
   walking w ms out g d sums at written share so-far sums-are share-is long wide marked =
@@ -108,7 +95,7 @@ module _ (s : Settings) (w₀ ms₀ : List ℕ) (block : List ℤ) (lent : List 
 
   -- it starts
   pub walk-starts : ValidState first → (sums : Sums) (share : Share) → sums ≡ sumsOf w₀ ms₀ → share ≡ cut (s .samples) g₀ block → Walking w₀ ms₀ lent g₀ d₀ sums 0 0 share
-  walk-starts ok sums share sums-are share-is = walking w₀ ms₀ lent g₀ d₀ sums 0 0 share (progress-none first block lent ok) sums-are share-is refl refl refl
+  walk-starts ok sums share sums-are share-is = walking w₀ ms₀ lent g₀ d₀ sums 0 0 share (progress-none machine first block lent ok) sums-are share-is refl refl refl
 
 -- it turns and ends
 module _ {s : Settings} {w₀ ms₀ : List ℕ} {block : List ℤ} {lent : List ℕ} {g₀ : Gatherer} {d₀ : Detector} {w ms out : List ℕ} {g : Gatherer} {d : Detector}
@@ -133,6 +120,7 @@ module _ {s : Settings} {w₀ ms₀ : List ℕ} {block : List ℤ} {lent : List 
       last ≡ walkedWith g d p taken written why → w₁ ≡ w → ms₁ ≡ ms → (k : ℕ) → taken ≡ at + k →
       fedBy machine st rest left ≡ record { after = partJoined st p; taken = k; records = []; why = why } → out₁ ≡ take behind out ++ drop behind out →
       WalkIs st₀ block lent s w₁ ms₁ last out₁
+  unfolding fedWith
   walk-last last p taken why w₁ ms₁ out₁ fits below last-is window-is marks-are k taken-is fed bytes-are =
       let none : written ≡ written + 0 = omega arith in
       let end-is : stateWith s (last .gatherer) (last .detector) w₁ ms₁ ≡ partJoined st p = λ i. stateWith s (last-is i .gatherer) (last-is i .detector) (window-is i) (marks-are i) in (
@@ -197,15 +185,14 @@ module _ {s : Settings} {w₀ ms₀ : List ℕ} {block : List ℤ} {lent : List 
           written-is : length (halfDue st p) ≡ h .written
           written-is = sym (ap (λ (o : HalfOutcome). o .written) (took .1))
 
-          next : Progress st₀ block lent (stateWith s (h .gatherer) (h .detector) w₁ ms₁) (at + n) (written + h .written) back
+          next : Progress machine ValidState st₀ block lent (stateWith s (h .gatherer) (h .detector) w₁ ms₁) (at + n) (written + h .written) back
           next =
-              let t = no-why (passesEnd st p) (left <ᵇ length (halfDue st p)) (took .0) in
-              let few : length (halfDue st p) ≤ left = ltb-false left (length (halfDue st p)) (t .1) in
-              subst (λ (k : ℕ). Progress st₀ block lent (stateWith s (h .gatherer) (h .detector) w₁ ms₁) (at + n) (written + k) back) written-is
-              (subst (λ (z : State). Progress st₀ block lent z (at + n) (written + length (halfDue st p)) back) after-is
-              (progress-more (inv .so-far) n (halfDue st p) (halfJoined st p) back (inv .share-in) few
+              let t = taken-if (passesEnd st p) (halfDue st p) left (took .0) in
+              subst (λ (k : ℕ). Progress machine ValidState st₀ block lent (stateWith s (h .gatherer) (h .detector) w₁ ms₁) (at + n) (written + k) back) written-is
+              (subst (λ (z : State). Progress machine ValidState st₀ block lent z (at + n) (written + length (halfDue st p)) back) after-is
+              (progress-more (inv .so-far) n (halfDue st p) (halfJoined st p) back (inv .share-in) (t .1)
               (halfJoined-valid st p (inv .so-far .valid) p-fits (t .0))
-              (feed-taken st rest left (inv .so-far .valid .gatherer-valid .0) share (inv .share-is) completes (took .0))
+              (feed-taken cuts st rest left (inv .so-far .valid .gatherer-valid .0) share (inv .share-is) completes (took .0))
               (back-is ∙ ap (λ (l : List ℕ). take behind out ++ l) (ap (λ (o : HalfOutcome). o .bytes) (took .1)))))
 
           pub taken-fits : written + h .written ≤ room lent
@@ -220,7 +207,7 @@ module _ {s : Settings} {w₀ ms₀ : List ℕ} {block : List ℤ} {lent : List 
           walk-turns share₁ share-is long wide marked =
               walking s w₀ ms₀ block lent g₀ d₀ w₁ ms₁ back (h .gatherer) (h .detector) (h .sums) (at + n) (written + h .written) share₁ next
               (ap (λ (o : HalfOutcome). o .sums) (took .1) ∙ ap (λ (z : State). sumsOf (z .window) (z .marks)) after-is)
-              (share-is ∙ ap (cut (s .samples) (h .gatherer)) (rest-is (at + n) block)) (long ∙ inv .long) (wide ∙ inv .wide) (marked ∙ inv .marked)
+              (share-is ∙ ap (cut (s .samples) (h .gatherer)) (lent-behind (at + n) block)) (long ∙ inv .long) (wide ∙ inv .wide) (marked ∙ inv .marked)
 
         -- it is not
         pub walk-stops : 0 < h .why → (last : Walked) → WalkEnds g d (take (at + n - 1 - at) rest) (at + n - 1) written (h .why) last →
@@ -238,16 +225,17 @@ module _ {s : Settings} {w₀ ms₀ : List ℕ} {block : List ℤ} {lent : List 
             let bound : less .squares ≤ less .count * 2 ^ 30 = omega (arith, ended .1, ap (λ (k : Part). k .squares) less-is, ap (λ (k : Part). k .count) less-is) in
             walk-last last less (at + n - 1) (h .why) w₁ ms₁ back (partOf-fits (s .samples) g (take (n - 1) rest) bound (omega arith)) below
             (ended .0 ∙ ap (λ (k : Part). walkedWith g d k (at + n - 1) written (h .why)) less-is) window-is marks-are
-            (n - 1) (omega arith) (feed-stops st rest left (inv .so-far .valid .gatherer-valid .0) share (inv .share-is) completes (h .why) (stopped .0) some) (back-is ∙ ap (λ (l : List ℕ). take behind out ++ l) bytes-are)
+            (n - 1) (omega arith) (feed-stops cuts st rest left (inv .so-far .valid .gatherer-valid .0) share (inv .share-is) completes (h .why) (stopped .0) some)
+            (back-is ∙ ap (λ (l : List ℕ). take behind out ++ l) bytes-are)
 
   -- none ends
   pub walk-ends : share .completes ≡ false → (last : Walked) → WalkEnds g d (take (length block - at) rest) (length block) written 0 last →
       WalkIs st₀ block lent s w ms last out
   walk-ends leaves last ended =
-      let all-is : partOf (take (length block - at) rest) ≡ partOf rest = ap partOf (rest-is at block) in
+      let all-is : partOf (take (length block - at) rest) ≡ partOf rest = ap partOf (lent-behind at block) in
       let below : g .count + length rest < s .samples = inv .within .below leaves in
       let bound : partOf rest .squares ≤ length rest * 2 ^ 30 = omega (arith, ended .1, ap (λ (k : Part). k .squares) all-is, ap (λ (k : Part). k .count) all-is) in
       walk-last last (partOf rest) (length block) 0 w ms out (partOf-fits (s .samples) g rest bound (omega arith)) below
       (ended .0 ∙ ap (λ (k : Part). walkedWith g d k (length block) written 0) all-is) refl refl
       (length rest) (omega (arith, length-drop at block, inv .so-far .at-in))
-      (feed-rest st rest left (inv .so-far .valid .gatherer-valid .0) share (inv .share-is) leaves) (sym (take-append-drop behind out))
+      (feed-rest cuts st rest left (inv .so-far .valid .gatherer-valid .0) share (inv .share-is) leaves) (sym (take-append-drop behind out))

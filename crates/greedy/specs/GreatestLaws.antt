@@ -5,7 +5,6 @@ use mathlib.Core.List.{List, [], _∷_, _++_, append-nil}
 use Prim.Native.Nat.{ℕ, zero, suc, _+_, _-_, _≤_, _<_}
 use native.Mathlib.Omega.{arith}
 use lib.ListN.{length, take, length-append}
-use lib.IntN.{ℤ}
 use lib.Dec.{eqb·zero-suc, eqb·suc-suc}
 use borrow.Author.Tests.{ltb-true, ltb-false, leb-true, leb-false, lt-leb, le-leb}
 use Rattle.numbers.specs.Notation.{_≤ᵇ_, _<ᵇ_, _≡ᵇ_, if_then_else_}
@@ -38,14 +37,14 @@ leb-sub d l room h = go (l ≤ᵇ room - d) refl
     go true e = let p = leb-true l (room - d) e in le-leb (d + l) room (omega arith)
     go false e = let p = leb-false l (room - d) e in lt-leb (d + l) room (omega arith)
 
-module _ {St : Type 0} (M : Machine St) where
-  pub record GreatestRun (st : St) (block : List ℤ) (room : ℕ) (r : Run St) : Type 0 where
+module _ {X St : Type 0} (M : Machine X St) where
+  pub record GreatestRun (st : St) (block : List X) (room : ℕ) (r : Run St) : Type 0 where
     pub taken-is : r .taken ≡ takenBy M st block room
     pub records-are : r .records ≡ dueOver M st (take (takenBy M st block room) block)
     pub after-is : r .after ≡ walkedBy M st (take (takenBy M st block room) block)
     pub why-is : r .why ≡ whyBy M st block (takenBy M st block room)
 
-  none-taken : (st : St) (block : List ℤ) (room y : ℕ) → takenBy M st block room ≡ 0 → whyBy M st block 0 ≡ y → GreatestRun st block room (stopped st y)
+  none-taken : (st : St) (block : List X) (room y : ℕ) → takenBy M st block room ≡ 0 → whyBy M st block 0 ≡ y → GreatestRun st block room (stopped st y)
   none-taken st block room y e w = record {
     taken-is = sym e;
     records-are = sym (ap (λ (n : ℕ). dueOver M st (take n block)) e);
@@ -53,7 +52,7 @@ module _ {St : Type 0} (M : Machine St) where
     why-is = sym (ap (whyBy M st block) e ∙ w);
   }
 
-  module _ (st : St) (x : ℤ) (xs : List ℤ) (room : ℕ) where
+  module _ (st : St) (x : X) (xs : List X) (room : ℕ) where
     why-first : (b : Bool) → M .atEnd st x ≡ b → whyBy M st (x ∷ xs) 0 ≡ (if b then 2 else 1)
     why-first b e =
         ap (λ (z : Bool). if z then 0 else if not (M .atEnd st x) && true then 1 else 2) (eqb·zero-suc (length xs)) ∙ (ap (λ (z : Bool). if not z && true then 1 else 2) e ∙ go b)
@@ -103,7 +102,7 @@ module _ {St : Type 0} (M : Machine St) where
         }
 
   -- demand 2's feed, from every state
-  pub fedBy-greatest : (block : List ℤ) (st : St) (room : ℕ) → GreatestRun st block room (fedBy M st block room)
+  pub fedBy-greatest : (block : List X) (st : St) (room : ℕ) → GreatestRun st block room (fedBy M st block room)
   unfolding fedBy
   fedBy-greatest [] st room = none-taken st [] room 0 refl refl
   fedBy-greatest (x ∷ xs) st room = go (M .atEnd st x) (room <ᵇ length (M .dueWith st x)) refl refl (fedBy-greatest xs (M .next st x) (room - length (M .dueWith st x)))

@@ -1,18 +1,20 @@
--- A machine that takes one sample at a time, and the greedy feed of a block over it.
+-- A machine that takes one sample at a time, and the greedy feed of a block over it. A sample is whatever the machine takes.
 use mathlib.Core.Bool.{Bool, true, false, not, _&&_}
 use mathlib.Core.List.{List, [], _∷_, _++_}
 use Prim.Native.Nat.{ℕ, _+_, _-_}
 use lib.ListN.{length, take}
-use lib.IntN.{ℤ}
 use Rattle.numbers.specs.Notation.{_≤ᵇ_, _<ᵇ_, _≡ᵇ_, if_then_else_}
 use Rattle.reading.specs.declared.Record.{Record}
+use Rattle.reading.specs.Records.{recordBytes}
 use Rattle.reading.specs.Feed.{greatestTo}
+use Rattle.reading.specs.Calls.{Outcome}
+use Rattle.reading.specs.Engineer.{over, room}
 
 -- of one more sample: whether it would pass V's end, the records due with it, and the machine after it
-pub record Machine (St : Type 0) : Type 0 where
-  pub atEnd : St → ℤ → Bool
-  pub dueWith : St → ℤ → List Record
-  pub next : St → ℤ → St
+pub record Machine (X St : Type 0) : Type 0 where
+  pub atEnd : St → X → Bool
+  pub dueWith : St → X → List Record
+  pub next : St → X → St
 
 -- a run of the greedy feed: the machine after it, the samples taken, the records written, and why it stopped
 pub record Run (St : Type 0) : Type 0 where
@@ -28,7 +30,7 @@ abbrev pub joined : {St : Type 0} → ℕ → List Record → Run St → Run St
 joined n es r = record { after = r .after; taken = n + r .taken; records = es ++ r .records; why = r .why }
 
 -- stop where the next sample would pass V's end (2) or its records would not fit (1), else take it and go on
-unfoldable pub fedBy : {St : Type 0} → Machine St → St → List ℤ → ℕ → Run St
+unfoldable pub fedBy : {X St : Type 0} → Machine X St → St → List X → ℕ → Run St
 fedBy M st [] room = stopped st 0
 fedBy M st (x ∷ xs) room =
     elim (M .atEnd st x) [
@@ -40,26 +42,37 @@ fedBy M st (x ∷ xs) room =
           ]
     ]
 
-module _ {St : Type 0} (M : Machine St) where
+-- what a run is to who lent a record buffer; a feed with the room of that
+abbrev pub outcomeOf : {St : Type 0} → List ℕ → Run St → Outcome St
+outcomeOf lent r = record {
+  after = r .after;
+  told = record { taken = r .taken; written = length (r .records); why = r .why };
+  bytes = over (recordBytes (r .records)) lent;
+}
+
+abbrev pub fedInto : {X St : Type 0} → Machine X St → St → List X → List ℕ → Outcome St
+fedInto M st block lent = outcomeOf lent (fedBy M st block (room lent))
+
+module _ {X St : Type 0} (M : Machine X St) where
   -- the machine after samples, and the records due with them; whether none of them passes V's end
-  abbrev pub walkedBy : St → List ℤ → St
+  abbrev pub walkedBy : St → List X → St
   walkedBy st [] = st
   walkedBy st (x ∷ xs) = walkedBy (M .next st x) xs
 
-  abbrev pub dueOver : St → List ℤ → List Record
+  abbrev pub dueOver : St → List X → List Record
   dueOver st [] = []
   dueOver st (x ∷ xs) = M .dueWith st x ++ dueOver (M .next st x) xs
 
-  abbrev pub withinEndBy : St → List ℤ → Bool
+  abbrev pub withinEndBy : St → List X → Bool
   withinEndBy st [] = true
   withinEndBy st (x ∷ xs) = not (M .atEnd st x) && withinEndBy (M .next st x) xs
 
   -- 01's rule of feed, of any machine: the greatest number of samples that keep V within its end and whose records fit; and why no more
-  abbrev pub allowedBy : St → List ℤ → ℕ → ℕ → Bool
+  abbrev pub allowedBy : St → List X → ℕ → ℕ → Bool
   allowedBy st block room n = withinEndBy st (take n block) && length (dueOver st (take n block)) ≤ᵇ room
 
-  abbrev pub takenBy : St → List ℤ → ℕ → ℕ
+  abbrev pub takenBy : St → List X → ℕ → ℕ
   takenBy st block room = greatestTo (allowedBy st block room) (length block)
 
-  abbrev pub whyBy : St → List ℤ → ℕ → ℕ
+  abbrev pub whyBy : St → List X → ℕ → ℕ
   whyBy st block n = if n ≡ᵇ length block then 0 else if withinEndBy st (take (n + 1) block) then 1 else 2

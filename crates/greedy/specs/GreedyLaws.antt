@@ -5,21 +5,20 @@ use mathlib.Core.List.{List, [], _∷_, _++_, append-assoc}
 use Prim.Native.Nat.{ℕ, _+_, _-_, _≤_}
 use native.Mathlib.Omega.{arith}
 use lib.ListN.{length, length-append}
-use lib.IntN.{ℤ}
 use borrow.Author.Tests.{ltb-false}
 use Rattle.numbers.specs.Notation.{_<ᵇ_, _≡ᵇ_, if_then_else_}
 use Rattle.reading.specs.declared.Record.{Record}
 use Rattle.greedy.specs.Greedy.{Machine, Run, stopped, joined, fedBy}
 
 -- a run takes no more samples than the block has, all of them where nothing stops it, and writes no more records than fit
-pub record Bounded {St : Type 0} (xs : List ℤ) (room : ℕ) (r : Run St) : Type 0 where
+pub record Bounded {X St : Type 0} (xs : List X) (room : ℕ) (r : Run St) : Type 0 where
   pub most : r .taken ≤ length xs
   pub whole : r .why ≡ 0 → r .taken ≡ length xs
   pub fits : length (r .records) ≤ room
 
-module _ {St : Type 0} (M : Machine St) where
+module _ {X St : Type 0} (M : Machine X St) where
   -- a block that begins with x, by what x does
-  module _ (st : St) (x : ℤ) (xs : List ℤ) (room : ℕ) where
+  module _ (st : St) (x : X) (xs : List X) (room : ℕ) where
     abbrev pub byFirst : Bool → Bool → Run St
     byFirst e f = elim e [ true ↦ stopped st 2 | false ↦ elim f [ true ↦ stopped st 1 | false ↦ joined 1 (M .dueWith st x) (fedBy M (M .next st x) xs (room - length (M .dueWith st x))) ] ]
 
@@ -38,7 +37,7 @@ module _ {St : Type 0} (M : Machine St) where
     fedBy-takes p q = fedBy-cons false false p q
 
   -- two blocks as one: the first, and where it was taken whole the second with the room left
-  abbrev pub andThen : Run St → List ℤ → ℕ → Run St
+  abbrev pub andThen : Run St → List X → ℕ → Run St
   andThen a ys room = if a .why ≡ᵇ 0 then joined (a .taken) (a .records) (fedBy M (a .after) ys (room - length (a .records))) else a
 
   joined-none : (r : Run St) → r ≡ joined 0 [] r
@@ -51,7 +50,7 @@ module _ {St : Type 0} (M : Machine St) where
       let e : n + (k + r .taken) ≡ n + k + r .taken = omega arith in
       λ i. record { after = r .after; taken = e i; records = sym (append-assoc a b (r .records)) i; why = r .why }
 
-  joined-andThen : (es : List Record) (a : Run St) (ys : List ℤ) (room : ℕ) → joined 1 es (andThen a ys (room - length es)) ≡ andThen (joined 1 es a) ys room
+  joined-andThen : (es : List Record) (a : Run St) (ys : List X) (room : ℕ) → joined 1 es (andThen a ys (room - length es)) ≡ andThen (joined 1 es a) ys room
   joined-andThen es a ys room = go (a .why ≡ᵇ 0)
     where
       e : room - length es - length (a .records) ≡ room - length (es ++ a .records)
@@ -63,7 +62,7 @@ module _ {St : Type 0} (M : Machine St) where
       go false = refl
       go true = rw e (joined-joined 1 (a .taken) es (a .records) (fedBy M (a .after) ys (room - length (es ++ a .records))))
 
-  pub fedBy-append : (xs : List ℤ) (st : St) (ys : List ℤ) (room : ℕ) → fedBy M st (xs ++ ys) room ≡ andThen (fedBy M st xs room) ys room
+  pub fedBy-append : (xs : List X) (st : St) (ys : List X) (room : ℕ) → fedBy M st (xs ++ ys) room ≡ andThen (fedBy M st xs room) ys room
   unfolding fedBy
   fedBy-append [] st ys room = let e : room ≡ room - 0 = omega arith in ap (fedBy M st ys) e ∙ joined-none (fedBy M st ys (room - 0))
   fedBy-append (x ∷ xs) st ys room = go (M .atEnd st x) (room <ᵇ length (M .dueWith st x)) (fedBy-append xs (M .next st x) ys (room - length (M .dueWith st x)))
@@ -76,7 +75,7 @@ module _ {St : Type 0} (M : Machine St) where
       go false true ih = refl
       go false false ih = ap (joined 1 (M .dueWith st x)) ih ∙ joined-andThen (M .dueWith st x) (fedBy M (M .next st x) xs later) ys room
 
-  pub fedBy-bounded : (xs : List ℤ) (st : St) (room : ℕ) → Bounded xs room (fedBy M st xs room)
+  pub fedBy-bounded : (xs : List X) (st : St) (room : ℕ) → Bounded xs room (fedBy M st xs room)
   unfolding fedBy
   fedBy-bounded [] st room = record { most = omega arith; whole = λ e. refl; fits = omega arith }
   fedBy-bounded (x ∷ xs) st room =

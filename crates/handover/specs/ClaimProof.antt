@@ -23,15 +23,18 @@ use Rattle.reading.specs.Engineer.{Call, Desk, over, room, emptyDesk, answer, d
 use Rattle.reading.specs.Engineer.Call.{feed, look, save, restoreSave, restoreRefused}
 use Rattle.reading.specs.Engineer.Answer.{fed, looked, saved, restored}
 use Rattle.reading.specs.Layout.{recordLength, imageLength}
+use Rattle.reading_laws.specs.RecordingsLaws.{samples-append, samples-take}
+use Rattle.reading_laws.specs.Past.{past}
+use Rattle.reading_laws.specs.PastLaws.{past-grows}
 use Rattle.reading_laws.specs.CompletedLaws.{records-completed}
 use Rattle.records.specs.DueLaws.{length-recordBytes, recordBytes-append}
+use Rattle.greedy.specs.Greedy.{outcomeOf}
 use Rattle.greedy.specs.GreedyFollows.{Recording, fedBy-follows, recording-fed}
 use Rattle.state.specs.declared.State.{State}
 use Rattle.state.specs.State.{fresh, stateOf}
-use Rattle.state.specs.Step.{machine}
 use Rattle.state.specs.StepFollows.{steps-of, fresh-is, readings-of, halves-none}
 use Rattle.state.specs.StepValid.{stateOf-valid, recording-none}
-use Rattle.state.specs.Calls.{outcomeOf, fedWith}
+use Rattle.state.specs.Calls.{fedWith}
 use Rattle.image.specs.Image.{imageBytes, saveAnswer, savedBytes, restoredBy}
 use Rattle.image.specs.ImageLaws.{length-imageBytes, restoredBy-saved, restoredBy-refused}
 use Rattle.image.specs.ImageFollows.{image-of-state}
@@ -41,13 +44,13 @@ use Rattle.handover.specs.Claim.{Caller, loggerAnswer, callerAfter, logg
 -- lists of copies
 abbrev pub AllRecordings : Settings → List (List ℤ) → Type 0
 AllRecordings s [] = Unit {0}
-AllRecordings s (r ∷ rs) = Recording s r × AllRecordings s rs
+AllRecordings s (r ∷ rs) = Recording (past s) Samples r × AllRecordings s rs
 
-recordings-snoc : (s : Settings) (rs : List (List ℤ)) (r : List ℤ) → AllRecordings s rs → Recording s r → AllRecordings s (rs ++ (r ∷ []))
+recordings-snoc : (s : Settings) (rs : List (List ℤ)) (r : List ℤ) → AllRecordings s rs → Recording (past s) Samples r → AllRecordings s (rs ++ (r ∷ []))
 recordings-snoc s [] r p q = (q, tt)
 recordings-snoc s (x ∷ rs) r p q = (p .0, recordings-snoc s rs r (p .1) q)
 
-recordings-at : (s : Settings) (rs : List (List ℤ)) (j : ℕ) → AllRecordings s rs → j < length rs → Recording s (getD rs j [])
+recordings-at : (s : Settings) (rs : List (List ℤ)) (j : ℕ) → AllRecordings s rs → j < length rs → Recording (past s) Samples (getD rs j [])
 recordings-at s [] j p h = absurd (omega arith)
 recordings-at s (r ∷ rs) zero p h = p .0
 recordings-at s (r ∷ rs) (suc j) p h = recordings-at s rs j (p .1) (omega arith)
@@ -83,7 +86,7 @@ module _ (s : Settings) (valid : ValidSettings s) where
   }
 
   pub record DeskOk (d : Desk) : Type 0 where
-    pub recording-ok : Recording s (d .recording)
+    pub recording-ok : Recording (past s) Samples (d .recording)
     pub copies-ok : AllRecordings s (d .copies)
 
   -- one call: the same answer, and the caller still keeps what is read from the desk
@@ -102,12 +105,12 @@ module _ (s : Settings) (valid : ValidSettings s) where
     feed-step : (block : List ℤ) (lent : List ℕ) → Samples block → CallAgrees d (feed block lent)
     unfolding fedWith
     feed-step block lent are =
-        let F = fedBy-follows s some machine (stateOf s) (steps-of s some) block rec (room lent) (ok .recording-ok .within) in
+        let F = fedBy-follows (past-grows s some) (steps-of s some) block rec (room lent) (ok .recording-ok .within) in
         let n = taken s rec block (room lent) in
         let es = completed s rec block n in
         let grown : recordsOf rec ++ take (recordLength * length es) (over (recordBytes es) lent) ≡ recordsOf (rec ++ take n block) =
         ap (λ (bytes : List ℕ). recordsOf rec ++ bytes) (take-over (recordLength * length es) (recordBytes es) lent (length-recordBytes es))
-        ∙ sym (ap recordBytes (records-completed s some rec block n) ∙ recordBytes-append (records s rec) es) in
+        ∙ sym (ap recordBytes (records-completed (past-grows s some) rec block n) ∙ recordBytes-append (records s rec) es) in
         record {
           same-answer = λ i. fed (outcomeOf lent (F i) .told) (outcomeOf lent (F i) .bytes);
           same-kept =
@@ -118,7 +121,7 @@ module _ (s : Settings) (valid : ValidSettings s) where
                 writtenAt = map recordsOf copies;
               })
               ∙ (λ i. record { logger = stateOf s (rec ++ take n block); images = map (imageOf s) copies; written = grown i; writtenAt = map recordsOf copies });
-          ok = record { recording-ok = recording-fed s some rec block (room lent) (ok .recording-ok) are; copies-ok = ok .copies-ok };
+          ok = record { recording-ok = recording-fed (past-grows s some) samples-append samples-take rec block (room lent) (ok .recording-ok) are; copies-ok = ok .copies-ok };
         }
 
     look-step : CallAgrees d look

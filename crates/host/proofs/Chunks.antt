@@ -14,31 +14,31 @@ use Rattle.reading.specs.Layout.{recordLength}
 use Rattle.samples.specs.Samples.{samplesOf}
 use Rattle.samples.specs.SamplesLaws.{length-samples, samplesOf-drop, samplesOf-take}
 use Rattle.greedy.specs.Greedy.{fedBy}
+use Rattle.greedy.specs.ProgressLaws.{Progress, progress-none, progress-last, lent-behind, back-behind, chunk-taken, chunk-fits, chunk-more, chunk-last}
 use Rattle.state.specs.declared.State.{State}
 use Rattle.state.specs.State.{ValidState}
 use Rattle.state.specs.Step.{machine}
 use Rattle.state.specs.Calls.{fedWith}
-use Rattle.state.specs.ProgressLaws.{Progress, progress-none, progress-last, lent-behind, back-behind, chunk-taken, chunk-fits, chunk-more, chunk-last}
 use Rattle.logger.specs.Logger.{fedTo}
 
 module _ (st₀ : State) (b lent : List ℕ) where
   pub record Chunks (out : List ℕ) (st : State) (at written : ℕ) : Type 0 where
-    pub so-far : Progress st₀ (samplesOf b) lent st at written out
+    pub so-far : Progress machine ValidState st₀ (samplesOf b) lent st at written out
     pub long : length out ≡ length lent
     pub inside : at ≤ length b / 2
     pub fits : recordLength * written ≤ length lent
 
-  chunks : (out : List ℕ) (st : State) (at written : ℕ) → Progress st₀ (samplesOf b) lent st at written out → length out ≡ length lent → Chunks out st at written
+  chunks : (out : List ℕ) (st : State) (at written : ℕ) → Progress machine ValidState st₀ (samplesOf b) lent st at written out → length out ≡ length lent → Chunks out st at written
   chunks out st at written so-far long =
       record { so-far = so-far; long = long; inside = omega (arith, so-far .at-in, length-samples b); fits = omega (arith, so-far .fits) }
 
   pub chunks-start : ValidState st₀ → Chunks lent st₀ 0 0
-  chunks-start ok = chunks lent st₀ 0 0 (progress-none st₀ (samplesOf b) lent ok) refl
+  chunks-start ok = chunks lent st₀ 0 0 (progress-none machine st₀ (samplesOf b) lent ok) refl
 
 module _ {st₀ : State} {b lent out : List ℕ} {st : State} {at written : ℕ} (inv : Chunks st₀ b lent out st at written) where
   -- no sample is left
   pub chunks-end : length b / 2 ≤ at → fedTo st (record { taken = at; written = written; why = 0 }) out ≡ fedWith st₀ (samplesOf b) lent
-  unfolding fedBy
+  unfolding fedBy fedWith
   chunks-end all =
       let block : List ℤ = samplesOf b in
       let e : at ≡ length block = omega (arith, inv .so-far .at-in, length-samples b) in
@@ -69,9 +69,11 @@ module _ {st₀ : State} {b lent out : List ℕ} {st : State} {at written : ℕ}
     is = fed .0 ∙ (λ i. fedWith st (chunk-is i) (lent-behind (recordLength * written) out i))
 
     pub taken-few : told .taken ≤ k
+    unfolding fedWith
     taken-few = chunk-taken (inv .so-far) k inside (inv .long) (fed .1) is
 
     pub written-fit : written + told .written ≤ room lent
+    unfolding fedWith
     written-fit = chunk-fits (inv .so-far) k inside (inv .long) (fed .1) is
 
     abbrev back : List ℕ
@@ -81,8 +83,10 @@ module _ {st₀ : State} {b lent out : List ℕ} {st : State} {at written : ℕ}
     back-is = back-behind (recordLength * written) out part (omega (arith, inv .fits, inv .long))
 
     pub chunks-turn : told .why ≡ 0 → length back ≡ length out → Chunks st₀ b lent back end (at + k) (written + told .written)
+    unfolding fedWith
     chunks-turn none same = chunks st₀ b lent back end (at + k) (written + told .written) (chunk-more (inv .so-far) k inside (inv .long) (fed .1) is none back back-is) (same ∙ inv .long)
 
     pub chunks-stop : 0 < told .why →
         fedTo end (record { taken = at + told .taken; written = written + told .written; why = told .why }) back ≡ fedWith st₀ (samplesOf b) lent
+    unfolding fedWith
     chunks-stop some = chunk-last (inv .so-far) k inside (inv .long) (fed .1) is some back back-is

@@ -2,6 +2,8 @@ pub mod Sentences
 pub mod RootLaws
 pub mod DivisionLaws
 pub mod RecordingsLaws
+pub mod Past
+pub mod PastLaws
 pub mod CompletedLaws
 pub mod TakenLaws
 pub mod SignalLaws

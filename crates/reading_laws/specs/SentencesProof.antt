@@ -6,7 +6,9 @@ use Rattle.reading_laws.specs.RecordingsLaws.{value-is, value-le, value-
 use Rattle.reading.specs.Values.{valueCount}
 use Rattle.reading.specs.Clipping.{lastMeasured}
 use Rattle.reading_laws.specs.MarksLaws.{marked-clipped, clipped-marked}
-use Rattle.reading_laws.specs.CompletedLaws.{records-events, records-completed}
+use Rattle.reading_laws.specs.Past.{past}
+use Rattle.reading_laws.specs.PastLaws.{past-grows, records-events}
+use Rattle.reading_laws.specs.CompletedLaws.{records-completed}
 use Rattle.reading_laws.specs.TakenLaws.{taken-le, taken-allowed, taken-greatest}
 use Rattle.reading_laws.specs.SignalLaws.{signal-was, false-before-N, calm-after-true, calm-if-never, false-in-change, calm-in-change, calm-at-N, phase-says}
 
@@ -24,9 +26,9 @@ sentences-hold = record {
   signal-returns = calm-in-change;
   signal-cases = signal-was;
   signal-says = phase-says;
-  taken-fits = λ s h rec block room v. (taken-le s rec block room h, taken-allowed s rec block room h v);
-  taken-most = λ s h rec block room. taken-greatest s rec block room h;
-  records-added = λ s h. records-completed s h;
+  taken-fits = λ s h rec block room v. (taken-le (past s) rec block room, taken-allowed (past-grows s h) rec block room v);
+  taken-most = λ s h rec block room. taken-greatest (past s) rec block room;
+  records-added = λ s h. records-completed (past-grows s h);
   records-are-events = λ s rec. records-events s rec (valueCount s rec);
   marked-only-if = λ s rec i e h. marked-clipped s rec i (e .start) (lastMeasured e) h;
   marked-if = λ s rec i e some h. clipped-marked s rec i (e .start) (lastMeasured e) some h;

@@ -1,18 +1,16 @@
 -- 01's sentence on feed: the samples taken are allowed, and no greater number is.
 use mathlib.Core.Path.{_≡_, refl, sym, _∙_, ap}
 use mathlib.Core.Bool.{Bool, true, false, _&&_}
-use mathlib.Core.List.{List, append-nil}
-use Prim.Native.Nat.{ℕ, zero, suc, _≤_, _<_}
+use mathlib.Core.List.{List, _++_, append-nil}
+use Prim.Native.Nat.{ℕ, zero, suc, _≤_}
 use native.Mathlib.Omega.{arith}
 use native.Mathlib.Decide.{decLe}
-use lib.ListN.{length}
-use lib.IntN.{ℤ}
-use borrow.Author.Tests.{le-leb}
-use Rattle.settings.specs.declared.Settings.{Settings}
+use lib.ListN.{length, take}
+use borrow.Author.Tests.{leb-true, le-leb}
 use Rattle.numbers.specs.Notation.{_≤ᵇ_}
-use Rattle.numbers.specs.NotationLaws.{and-true}
-use Rattle.reading.specs.Values.{valueCount}
-use Rattle.reading.specs.Feed.{lastValue, allowed, greatestTo, taken}
+use Rattle.numbers.specs.NotationLaws.{and-true, and-left}
+use Rattle.reading.specs.Feed.{lastValue, greatestTo}
+use Rattle.reading_laws.specs.Past.{Past, completedIn, withinEndIn, allowedIn, takenIn, Grows}
 use Rattle.reading_laws.specs.CompletedLaws.{completed-none}
 
 -- the greatest number up to n that passes a test
@@ -46,20 +44,27 @@ module _ (test : ℕ → Bool) where
       go true older = omega arith
       go false older = omega arith
 
-module _ (s : Settings) (rec block : List ℤ) (room : ℕ) (some : 0 < s .samples) where
-  -- a recording within V's end has none of a block taken, at the least
-  none-allowed : valueCount s rec ≤ lastValue → allowed s rec block room 0 ≡ true
-  none-allowed v =
-      (λ i. valueCount s (append-nil rec i) ≤ᵇ lastValue && length (completed-none s some rec block i) ≤ᵇ room)
-      ∙ and-true (le-leb (valueCount s rec) lastValue v) (le-leb 0 room (omega arith))
+module _ {X : Type 0} (P : Past X) (rec block : List X) (room : ℕ) where
+  -- no greater number is allowed than is taken
+  pub taken-greatest : (k : ℕ) → k ≤ length block → allowedIn P rec block room k ≡ true → k ≤ takenIn P rec block room
+  taken-greatest k h p = greatestTo-most (allowedIn P rec block room) (length block) k h p
 
-  -- the samples taken are allowed
-  pub taken-allowed : valueCount s rec ≤ lastValue → allowed s rec block room (taken s rec block room) ≡ true
-  taken-allowed v = greatestTo-passes (allowed s rec block room) (length block) (none-allowed v)
+  pub taken-le : takenIn P rec block room ≤ length block
+  taken-le = greatestTo-le (allowedIn P rec block room) (length block)
 
-  -- and no greater number is
-  pub taken-greatest : (k : ℕ) → k ≤ length block → allowed s rec block room k ≡ true → k ≤ taken s rec block room
-  taken-greatest k h p = greatestTo-most (allowed s rec block room) (length block) k h p
+-- a past within V's end
+module _ {X : Type 0} {P : Past X} (grows : Grows P) (rec block : List X) (room : ℕ) (within : P .count rec ≤ lastValue) where
+  -- has none of a block taken, at the least
+  none-allowed : allowedIn P rec block room 0 ≡ true
+  none-allowed =
+      (λ i. P .count (append-nil rec i) ≤ᵇ lastValue && length (completed-none grows rec block i) ≤ᵇ room)
+      ∙ and-true (le-leb (P .count rec) lastValue within) (le-leb 0 room (omega arith))
 
-  pub taken-le : taken s rec block room ≤ length block
-  taken-le = greatestTo-le (allowed s rec block room) (length block)
+  -- the samples taken are allowed, and so it stays within
+  pub taken-allowed : allowedIn P rec block room (takenIn P rec block room) ≡ true
+  taken-allowed = greatestTo-passes (allowedIn P rec block room) (length block) none-allowed
+
+  pub taken-within : P .count (rec ++ take (takenIn P rec block room) block) ≤ lastValue
+  taken-within =
+      let n = takenIn P rec block room in
+      leb-true (P .count (rec ++ take n block)) lastValue (and-left (withinEndIn P rec block n) (length (completedIn P rec block n) ≤ᵇ room) taken-allowed)

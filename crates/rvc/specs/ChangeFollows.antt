@@ -1,42 +1,27 @@
--- What a change in progress carries follows the history: its sum stays, its greatest difference grows by the value that leaves the window, its first
--- stand by the newest value. What begins with a value is the reading's change there, and what ends is the reading's event.
+-- What a change in progress carries follows the history, whatever signal it stands under: its sum stays, its greatest difference and its mark grow by the value
+-- that leaves the window, its first stand as it is told. What begins with a value is the reading's change there, and what ends is the reading's event.
 use mathlib.Core.Path.{_≡_, refl, sym, _∙_, ap}
-use mathlib.Core.Bool.{Bool, true, false, _&&_, _||_, and-true, and-false}
+use mathlib.Core.Bool.{Bool, true, false, _||_}
 use mathlib.Core.List.{List, [], _∷_, map}
 use Prim.Native.Nat.{ℕ, zero, suc, _+_, _-_, _*_, _≤_, _<_, max}
 use native.Mathlib.Omega.{arith}
 use lib.ListN.{length, take, drop, getD, length-drop}
 use lib.Seq.{drop-cons}
-use borrow.Author.Tests.{ltb-true, ltb-false, le-leb, lt-leb}
+use borrow.Author.Tests.{ltb-true, ltb-false}
 use Rattle.settings.specs.declared.Settings.{Settings}
-use Rattle.numbers.specs.Notation.{_≤ᵇ_, _<ᵇ_, _≡ᵇ_, if_then_else_, flag}
+use Rattle.numbers.specs.Notation.{_<ᵇ_, _≡ᵇ_, if_then_else_, flag}
 use Rattle.settings.specs.Settings.{windowLength}
-use Rattle.settings.specs.SettingsLaws.{windowLength-some}
-use Rattle.reading.specs.declared.Event.{Event}
+use Rattle.settings.specs.SettingsLaws.{windowLength-some, windowLength-most}
 use Rattle.reading.specs.Values.{since, upTo}
 use Rattle.reading.specs.Clipping.{anyMarked, clippedFrom, eventClipped, recordOf}
 use Rattle.reading.specs.Changes.{windowSum, gap, firstStand, sumBefore, farthest, greatestDifference, changeEvent}
 use Rattle.threshold.specs.declared.Ended.the-variants.{Nothing, Over}
 use Rattle.threshold.specs.Standing.{listOf}
-use Rattle.window.specs.Window.{leaving, windowOf}
+use Rattle.window.specs.Window.{windowOf}
 use Rattle.window.specs.WindowLaws.{leaving-full}
-use Rattle.window.specs.WindowFollows.{windowSum-windowOf, oldest-is}
-use Rattle.rvc.specs.declared.Joining.{Joining}
-use Rattle.rvc.specs.Phase.{changeFrom, grown, closing, changeOf, standsFirst}
-
--- the newest value of a history, as it joins the window of the older ones, whose marks are ms
-abbrev pub joiningNewest : Settings → ℕ → List ℕ → List ℕ → Joining
-joiningNewest s r older ms =
-    let n = windowLength s in
-    record {
-      number = suc (length older);
-      value = r;
-      leaving = leaving n (length older) (windowOf n older);
-      mark = leaving n (length older) (windowOf n ms);
-      before = windowSum s (windowOf n older);
-      after = windowSum s (windowOf n (r ∷ older));
-      stands = standsFirst s (r ∷ older);
-    }
+use Rattle.window.specs.WindowFollows.{window-follows, windowSum-windowOf, oldest-is}
+use Rattle.rvc.specs.StandLaws.{stand-settled}
+use Rattle.rvc.specs.Phase.{changeFrom, grown, closing, joiningNewest, changeUnder, changeUpTo, dropped, changeEnded, standsFirst}
 
 -- the history before its n newest values, and its values from k on
 upTo-settled : (n : ℕ) (hist : List ℕ) → n ≤ length hist → upTo (length hist - n) hist ≡ drop n hist
@@ -120,25 +105,14 @@ module _ (s : Settings) (k r : ℕ) (older : List ℕ) (clipped : Bool) (ms : Li
       go true = refl
       go false = refl
 
-  stand-grows : firstStand s k (r ∷ older) ≡
-      (if 0 <ᵇ firstStand s k older then firstStand s k older else if standsFirst s (r ∷ older) then suc (length older) else 0)
-  stand-grows = let e : (k ≤ᵇ suc (length older)) ≡ true = le-leb k (suc (length older)) (omega arith) in rw e
-
-  pub change-grows : grown (windowLength s) (joiningNewest s r older ms) (changeOf s k older ms) ≡ changeOf s k (r ∷ older) (flag clipped ∷ ms)
-  change-grows =
+  pub change-grows : (stands : Bool) (f f′ : ℕ) → f′ ≡ (if 0 <ᵇ f then f else if stands then suc (length older) else 0) →
+      grown (windowLength s) (joiningNewest s r older ms stands) (changeUnder s older ms k f) ≡ changeUnder s (r ∷ older) (flag clipped ∷ ms) k f′
+  change-grows stands f f′ stand-grows =
       rw (
         leaving-full (windowLength s) (length older) (windowOf (windowLength s) older) (omega arith),
         leaving-full (windowLength s) (length older) (windowOf (windowLength s) ms) (omega arith),
       )
       (sym (λ j. record { start = k; sum = sum-stays j; difference = difference-grows j; stand = stand-grows j; clipped = mark-grows j }))
-
--- none has stood from k on before value k
-stand-none : (s : Settings) (k : ℕ) (hist : List ℕ) → length hist < k → firstStand s k hist ≡ 0
-stand-none s k [] h = refl
-stand-none s k (r ∷ older) h =
-    let e : firstStand s k older ≡ 0 = stand-none s k older (omega arith) in
-    let f : (k ≤ᵇ suc (length older)) ≡ false = lt-leb k (suc (length older)) h in
-    rw (e, f)
 
 -- a change begins with a value
 module _ (s : Settings) (r : ℕ) (older : List ℕ) (clipped : Bool) (ms : List ℕ) (beside : length ms ≡ length older) (full : windowLength s ≤ length older) where
@@ -149,8 +123,9 @@ module _ (s : Settings) (r : ℕ) (older : List ℕ) (clipped : Bool) (ms : List
       let e : suc (suc (length hist)) - (suc (length older) + n) ≡ 0 = omega (arith, windowLength-some s) in
       since-settled n (suc (length older)) (x ∷ hist) (omega arith) ∙ ap (λ (m : ℕ). take m (drop n (x ∷ hist))) e
 
-  pub change-begins : changeFrom (joiningNewest s r older ms) ≡ changeOf s (suc (length older)) (r ∷ older) (flag clipped ∷ ms)
-  change-begins = λ j. record { start = i; sum = sum-is j; difference = difference-is j; stand = stand-is j; clipped = mark-is j }
+  pub change-begins : (stands : Bool) (f : ℕ) → f ≡ (if stands then suc (length older) else 0) →
+      changeFrom (joiningNewest s r older ms stands) ≡ changeUnder s (r ∷ older) (flag clipped ∷ ms) (suc (length older)) f
+  change-begins stands f stand-is = λ j. record { start = i; sum = sum-is j; difference = difference-is j; stand = sym stand-is j; clipped = mark-is j }
     where
       i : ℕ
       i = suc (length older)
@@ -164,67 +139,34 @@ module _ (s : Settings) (r : ℕ) (older : List ℕ) (clipped : Bool) (ms : List
       mark-is : false ≡ clippedFrom s i (flag clipped ∷ ms)
       mark-is = sym (ap anyMarked (none-settled (flag clipped) ms beside))
 
-      stand-is : (if standsFirst s (r ∷ older) then i else 0) ≡ firstStand s i (r ∷ older)
-      stand-is =
-          let e : firstStand s i older ≡ 0 = stand-none s i older (omega arith) in
-          let f : (i ≤ᵇ i) ≡ true = le-leb i i (omega arith) in
-          rw (e, f)
+-- a change ends with a value
+module _ (s : Settings) (r : ℕ) (older : List ℕ) (ms : List ℕ) where
+  pub change-ends : (now : List ℕ) (k : ℕ) (stands : Bool) (f : ℕ) → windowLength s ≤ suc (length older) →
+      closing (windowLength s) (joiningNewest s r older ms stands) (changeUnder s (r ∷ older) now k f) ≡ changeEnded s (r ∷ older) now k f
+  change-ends now k stands f full =
+      rw (window-follows (windowLength s) r older (windowLength-some s) (windowLength-most s), windowSum-windowOf s (r ∷ older) full)
 
--- the first stand is at one of the values
-stand-le : (s : Settings) (k : ℕ) (hist : List ℕ) → firstStand s k hist ≤ length hist
-stand-le s k [] = omega arith
-stand-le s k (r ∷ older) = go (0 <ᵇ firstStand s k older) (k ≤ᵇ suc (length older) && standsFirst s (r ∷ older)) (stand-le s k older)
-  where
-    go : (b here : Bool) → firstStand s k older ≤ length older →
-        (if b then firstStand s k older else if here then suc (length older) else 0) ≤ suc (length older)
-    go true here h = omega arith
-    go false true h = omega arith
-    go false false h = omega arith
+-- its record, where k + N is behind it: the last value of its first magnitude is m − N
+module _ (s : Settings) (hist ms : List ℕ) (beside : length ms ≡ length hist) where
+  pub ended-listed : (k f : ℕ) → k + windowLength s ≤ length hist →
+      listOf (changeEnded s hist ms k f) ≡ map (recordOf ms) (if dropped s hist f then [] else changeUpTo s hist k ∷ [])
+  ended-listed k f full = listed (dropped s hist f)
+    where
+      mark-is : clippedFrom s k ms ≡ eventClipped ms (changeUpTo s hist k)
+      mark-is =
+          let same : length ms - windowLength s ≡ k + (length hist - windowLength s - k) = omega arith in
+          ap (λ (i : ℕ). anyMarked (since k (upTo i ms))) same
 
--- a stand among all but the n newest values is one that is not after them
-stand-settled : (s : Settings) (k n : ℕ) (hist : List ℕ) →
-    (0 <ᵇ firstStand s k (drop n hist)) ≡ (0 <ᵇ firstStand s k hist && firstStand s k hist ≤ᵇ length hist - n)
-stand-settled s k zero hist =
-    let f : ℕ = firstStand s k hist in
-    let h : f ≤ length hist = stand-le s k hist in
-    let e : (f ≤ᵇ length hist - 0) ≡ true = le-leb f (length hist - 0) (omega arith) in
-    rw e (sym (and-true (0 <ᵇ f)))
-stand-settled s k (suc n) [] = refl
-stand-settled s k (suc n) (r ∷ older) =
-    stand-settled s k n older ∙ go (0 <ᵇ firstStand s k older) (k ≤ᵇ i && standsFirst s (r ∷ older)) (firstStand s k older) refl
-  where
-    i : ℕ
-    i = suc (length older)
+      listed : (b : Bool) → listOf (if b then Nothing else Over (record { event = changeUpTo s hist k; clipped = clippedFrom s k ms }))
+          ≡ map (recordOf ms) (if b then [] else changeUpTo s hist k ∷ [])
+      listed true = refl
+      listed false = λ j. record { event = changeUpTo s hist k; clipped = mark-is j } ∷ []
 
-    first : Bool → Bool → ℕ → ℕ
-    first b here f = if b then f else if here then i else 0
-
-    go : (b here : Bool) (f : ℕ) → (0 <ᵇ f) ≡ b → (b && f ≤ᵇ length older - n) ≡ (0 <ᵇ first b here f && first b here f ≤ᵇ suc (length older) - suc n)
-    go true here f e = let d : suc (length older) - suc n ≡ length older - n = omega arith in rw (d, e)
-    go false true f e =
-        let g : (i ≤ᵇ suc (length older) - suc n) ≡ false = lt-leb i (suc (length older) - suc n) (omega arith) in
-        rw g (sym (and-false (0 <ᵇ i)))
-    go false false f e = refl
-
--- a change ends: k + N is behind it, and the last value of its first magnitude is m − N
-pub change-ends : (s : Settings) (k r : ℕ) (older : List ℕ) (clipped : Bool) (ms : List ℕ) → length ms ≡ length older → k + windowLength s ≤ suc (length older) →
-    listOf (closing (windowLength s) (joiningNewest s r older ms) (changeOf s k (r ∷ older) (flag clipped ∷ ms))) ≡ map (recordOf (flag clipped ∷ ms)) (changeEvent s k (r ∷ older))
-change-ends s k r older clipped ms beside full =
-    rw (windowSum-windowOf s hist (omega arith), upTo-settled (windowLength s) hist (omega arith), stand-settled s k (windowLength s) hist)
-    (listed (0 <ᵇ firstStand s k hist && firstStand s k hist ≤ᵇ length hist - windowLength s) _ mark-is)
-  where
-    hist : List ℕ
-    hist = r ∷ older
-
-    now : List ℕ
-    now = flag clipped ∷ ms
-
-    mark-is : clippedFrom s k now ≡ anyMarked (since k (upTo (k + (length hist - windowLength s - k)) now))
-    mark-is =
-        let same : length now - windowLength s ≡ k + (length hist - windowLength s - k) = omega arith in
-        ap (λ (i : ℕ). anyMarked (since k (upTo i now))) same
-
-    listed : (b : Bool) (e : Event) → clippedFrom s k now ≡ eventClipped now e →
-        listOf (if b then Nothing else Over (record { event = e; clipped = clippedFrom s k now })) ≡ map (recordOf now) (if b then [] else e ∷ [])
-    listed true e m = refl
-    listed false e m = λ j. record { event = e; clipped = m j } ∷ []
+  -- of the reading's own change
+  pub event-listed : (k : ℕ) → k + windowLength s ≤ length hist → listOf (changeEnded s hist ms k (firstStand s k hist)) ≡ map (recordOf ms) (changeEvent s k hist)
+  event-listed k full = ended-listed k (firstStand s k hist) full ∙ ap (λ (b : Bool). map (recordOf ms) (if b then [] else changeUpTo s hist k ∷ [])) (sym dropped-is)
+    where
+      dropped-is : (0 <ᵇ firstStand s k (upTo (length hist - windowLength s) hist)) ≡ dropped s hist (firstStand s k hist)
+      dropped-is =
+          ap (λ (l : List ℕ). 0 <ᵇ firstStand s k l) (upTo-settled (windowLength s) hist (omega arith))
+          ∙ stand-settled (standsFirst s) (firstStand s) (λ k. refl) (λ k r older. refl) k (windowLength s) hist

@@ -1,3 +1,8 @@
+pub mod Signal
+pub mod SignalLaws
+pub mod SignalValid
+pub mod SignalFollows
+pub mod StandLaws
 pub mod Phase
 pub mod PhaseRuleLaws
 pub mod PhaseLaws

@@ -1,5 +1,5 @@
--- One value's step of the phase, and what a history and its marks leave of it.
-use mathlib.Core.Bool.{Bool, false, _&&_, _||_}
+-- One value's step of the phase, under any signal and under its own, and what a history and its marks leave of it.
+use mathlib.Core.Bool.{Bool, true, false, _&&_, _||_}
 use mathlib.Core.List.{List, [], _∷_}
 use Prim.Native.Nat.{ℕ, suc, _-_, _*_, _≤_, _<_, max}
 use lib.ListN.{length, take}
@@ -12,18 +12,27 @@ use Rattle.reading.specs.declared.Kind.the-variants.{Dip, Swell}
 use Rattle.reading.specs.declared.Event.{Event}
 use Rattle.reading.specs.Clipping.{clippedFrom}
 use Rattle.reading.specs.Thresholds.{standsSince}
-use Rattle.reading.specs.Changes.{sum, gap, calm, Signal, signal, sumBefore, greatestDifference, firstStand}
+use Rattle.reading.specs.Changes.{sum, windowSum, gap, Signal as ReadSignal, signal, sumBefore, greatestDifference, firstStand}
 use Rattle.reading.specs.Changes.Signal.{filling, unsettled, steady, changing}
 use Rattle.reading.specs.Restore.{changeRule, phaseRule}
 use Rattle.threshold.specs.declared.Ended.{Ended}
 use Rattle.threshold.specs.declared.Ended.the-variants.{Nothing, Over}
-use Rattle.window.specs.Window.{pushed, leaving}
-use Rattle.window.specs.Range.{calmWith}
+use Rattle.window.specs.Window.{pushed, leaving, windowOf}
 use Rattle.rvc.specs.declared.Change.{Change}
 use Rattle.rvc.specs.declared.Phase.{Phase}
 use Rattle.rvc.specs.declared.Phase.the-variants.{Filling, Unsettled, Steady, Changing}
 use Rattle.rvc.specs.declared.Joining.{Joining}
 use Rattle.rvc.specs.declared.Moved.{Moved}
+use Rattle.rvc.specs.declared.Signal.{Signal}
+use Rattle.rvc.specs.declared.Signal.the-variants.{Filling as IsFilling, Unsettled as IsUnsettled, Steady as IsSteady, Changing as IsChanging}
+use Rattle.rvc.specs.Signal.{steadyBy, steadyAfter, TestReady}
+
+-- the signal that a phase stands under
+abbrev pub signalIn : Phase → Signal
+signalIn Filling = IsFilling
+signalIn Unsettled = IsUnsettled
+signalIn Steady = IsSteady
+signalIn (Changing c) = IsChanging (c .start)
 
 -- a change that begins with the value j
 abbrev pub changeFrom : Joining → Change
@@ -46,13 +55,6 @@ closing n j c =
     let e : Event = record { kind = 4; start = c .start; duration = settled - c .start; first = c .difference; second = gap (j .after) (c .sum) } in
     if 0 <ᵇ c .stand && c .stand ≤ᵇ settled then Nothing else Over (record { event = e; clipped = c .clipped })
 
--- whether the signal is false at value i, whatever the window: while it fills, and up to k + n in a change since k
-abbrev pub heldAt : ℕ → ℕ → Phase → Bool
-heldAt n i Filling = i <ᵇ n
-heldAt n i Unsettled = false
-heldAt n i Steady = false
-heldAt n i (Changing c) = i - c .start ≤ᵇ n
-
 -- after a value at which the signal is false; and the record that ends with one at which it is true
 abbrev pub onward : ℕ → Joining → Phase → Phase
 onward n j Filling = if j .number <ᵇ n then Filling else Unsettled
@@ -70,27 +72,11 @@ endedOf n j (Changing c) = closing n j (grown n j c)
 abbrev pub movedBy : ℕ → Joining → Bool → Phase → Moved
 movedBy n j isSteady p = record { phase = if isSteady then Steady else onward n j p; ended = if isSteady then endedOf n j p else Nothing }
 
--- the limit in force: T, or T − H in a change; and scaled
-abbrev pub limitIn : Settings → Phase → ℕ
-limitIn s Filling = s .limit
-limitIn s Unsettled = s .limit
-limitIn s Steady = s .limit
-limitIn s (Changing c) = s .limit - s .reduction
-
-abbrev pub limitOf : Scaled → Phase → ℕ
-limitOf t Filling = t .limit
-limitOf t Unsettled = t .limit
-limitOf t Steady = t .limit
-limitOf t (Changing c) = t .limit - t .reduction
-
--- the signal at j as the code tests it, where part are the other values of its window, and the code's step
-abbrev pub steadyBy : Scaled → ℕ → List ℕ → Joining → Phase → Bool
-steadyBy t n part j p = if heldAt n (j .number) p then false else calmWith n (j .after) (limitOf t p) part (j .value)
-
+-- the same under its own signal, as the code tests it, where part are the other values of the window
 abbrev pub movedOn : Scaled → ℕ → List ℕ → Joining → Phase → Moved
-movedOn t n part j p = movedBy n j (steadyBy t n part j p) p
+movedOn t n part j p = movedBy n j (steadyBy t n part (j .number) (j .value) (j .after) (signalIn p)) p
 
--- value r after v values, from the window w of n and its marks before it; the signal there, by the reading's calm; and the step
+-- value r after v values, from the window w of n and its marks before it; and the step under the phase's own signal, by the reading's calm
 abbrev pub joiningOf : ℕ → ℕ → List ℕ → List ℕ → ℕ → Bool → Joining
 joiningOf n v w ms r stands = record {
   number = suc v;
@@ -102,30 +88,47 @@ joiningOf n v w ms r stands = record {
   stands = stands;
 }
 
-abbrev pub steadyAfter : Settings → ℕ → List ℕ → ℕ → Phase → Bool
-steadyAfter s v w r p = let n = windowLength s in if heldAt n (suc v) p then false else calm s (limitIn s p) (pushed n v w r)
-
 abbrev pub movedAfter : Settings → ℕ → List ℕ → List ℕ → ℕ → Bool → Phase → Moved
-movedAfter s v w ms r stands p = let n = windowLength s in movedBy n (joiningOf n v w ms r stands) (steadyAfter s v w r p) p
+movedAfter s v w ms r stands p = let n = windowLength s in movedBy n (joiningOf n v w ms r stands) (steadyAfter s v w r (signalIn p)) p
 
--- what a history and its marks leave
-abbrev pub changeOf : Settings → ℕ → List ℕ → List ℕ → Change
-changeOf s k hist ms = record {
-  start = k;
-  sum = sumBefore s k hist;
-  difference = greatestDifference s k hist;
-  stand = firstStand s k hist;
-  clipped = clippedFrom s k ms;
-}
+-- the newest value of a history, as it joins the window of the older ones, whose marks are ms
+abbrev pub joiningNewest : Settings → ℕ → List ℕ → List ℕ → Bool → Joining
+joiningNewest s r older ms stands = let n = windowLength s in joiningOf n (length older) (windowOf n older) (windowOf n ms) r stands
 
-abbrev pub phaseOn : Settings → List ℕ → List ℕ → Signal → Phase
-phaseOn s hist ms filling = Filling
-phaseOn s hist ms unsettled = Unsettled
-phaseOn s hist ms steady = Steady
-phaseOn s hist ms (changing k) = Changing (changeOf s k hist ms)
+-- what a history and its marks leave: of a change since k with the first stand f; of a phase under any signal, where `stand` tells the first stand from k on; and under its own
+abbrev pub changeUnder : Settings → List ℕ → List ℕ → ℕ → ℕ → Change
+changeUnder s hist ms k f = record { start = k; sum = sumBefore s k hist; difference = greatestDifference s k hist; stand = f; clipped = clippedFrom s k ms }
+
+abbrev pub phaseUnder : Settings → List ℕ → List ℕ → (ℕ → ℕ) → ReadSignal → Phase
+phaseUnder s hist ms stand filling = Filling
+phaseUnder s hist ms stand unsettled = Unsettled
+phaseUnder s hist ms stand steady = Steady
+phaseUnder s hist ms stand (changing k) = Changing (changeUnder s hist ms k (stand k))
+
+abbrev pub phaseOn : Settings → List ℕ → List ℕ → ReadSignal → Phase
+phaseOn s hist ms p = phaseUnder s hist ms (λ k. firstStand s k hist) p
 
 abbrev pub phaseOf : Settings → List ℕ → List ℕ → Phase
 phaseOf s hist ms = phaseOn s hist ms (signal s hist)
+
+-- the event of a change since k that is over with the newest value, 01's m; whether its first stand f is one at k to m − N; its record then; and what ends with the
+-- newest value, at which the signal is true or not
+abbrev pub changeUpTo : Settings → List ℕ → ℕ → Event
+changeUpTo s hist k =
+    record { kind = 4; start = k; duration = length hist - windowLength s - k; first = greatestDifference s k hist; second = gap (windowSum s hist) (sumBefore s k hist) }
+
+abbrev pub dropped : Settings → List ℕ → ℕ → Bool
+dropped s hist f = 0 <ᵇ f && f ≤ᵇ length hist - windowLength s
+
+abbrev pub changeEnded : Settings → List ℕ → List ℕ → ℕ → ℕ → Ended
+changeEnded s hist ms k f = if dropped s hist f then Nothing else Over (record { event = changeUpTo s hist k; clipped = clippedFrom s k ms })
+
+abbrev pub endedUnder : Settings → List ℕ → List ℕ → (ℕ → ℕ) → Bool → ReadSignal → Ended
+endedUnder s hist ms stand false p = Nothing
+endedUnder s hist ms stand true filling = Nothing
+endedUnder s hist ms stand true unsettled = Nothing
+endedUnder s hist ms stand true steady = Nothing
+endedUnder s hist ms stand true (changing k) = changeEnded s hist ms k (stand k)
 
 -- whether a dip or a swell first stands at the newest value
 abbrev pub standsFirst : Settings → List ℕ → Bool
@@ -133,11 +136,8 @@ standsFirst s hist = standsSince s Dip hist ≡ᵇ length hist || standsSince s 
 
 -- what the code's step needs
 pub record Joins (t : Scaled) (n : ℕ) (j : Joining) (p : Phase) : Type 0 where
-  pub some : 0 < n
-  pub most : n ≤ 120
+  pub test-ready : TestReady t n (j .after) (signalIn p)
   pub leaving-le : j .leaving ≤ 524288
-  pub after-le : j .after ≤ 62914560
-  pub limit-le : limitOf t p ≤ 62914560
 
 -- a change and a phase in the numbers of body 4
 abbrev pub changeRow : Change → List ℕ

@@ -18,7 +18,10 @@ use Rattle.rvc.specs.declared.Change.{Change}
 use Rattle.rvc.specs.declared.Phase.{Phase}
 use Rattle.rvc.specs.declared.Phase.the-variants.{Filling, Unsettled, Steady, Changing}
 use Rattle.rvc.specs.declared.Joining.{Joining}
-use Rattle.rvc.specs.Phase.{changeFrom, grown, joiningOf, steadyAfter, movedAfter, ValidChange, ValidPhase}
+use Rattle.rvc.specs.Signal.{limitIn, steadyAfter}
+use Rattle.rvc.specs.SignalLaws.{true-full}
+use Rattle.rvc.specs.Phase.{signalIn, changeFrom, grown, movedBy, joiningOf, movedAfter, ValidChange, ValidPhase}
+use Rattle.rvc.specs.PhaseLaws.{valid-signal}
 use Rattle.rvc.specs.PhaseRuleLaws.{Allowed, allowed-valid, valid-allowed}
 
 module _ (n v : ℕ) (w ms : List ℕ) (r : ℕ) (stands : Bool) (window : ValidWindow 524288 n v w) where
@@ -74,38 +77,29 @@ module _ (n v : ℕ) (w ms : List ℕ) (r : ℕ) (stands : Bool) (window : Valid
       stand false true f h = (omega arith, omega arith)
       stand false false f h = absurd (omega arith)
 
+-- under any truth b: a signal that is true has a full window
+pub moved-valid : (n v : ℕ) (w ms : List ℕ) (r : ℕ) (stands b : Bool) (p : Phase) → n ≤ 120 → (b ≡ true → n ≤ suc v) → ValidWindow 524288 n v w → ValidPhase n v p →
+    ValidPhase n (suc v) (movedBy n (joiningOf n v w ms r stands) b p .phase)
+moved-valid n v w ms r stands b p most full window valid = allowed-valid n (suc v) (movedBy n j′ b p .phase) (go b p full (valid-allowed n v p valid))
+  where
+    j′ : Joining
+    j′ = joiningOf n v w ms r stands
+
+    go : (b : Bool) (p : Phase) → (b ≡ true → n ≤ suc v) → Allowed n v p → Allowed n (suc v) (movedBy n j′ b p .phase)
+    go true p full h = full refl
+    go false Filling full h = fills (suc v <ᵇ n) refl
+      where
+        fills : (few : Bool) → (suc v <ᵇ n) ≡ few → Allowed n (suc v) (if few then Filling else Unsettled)
+        fills true e = ltb-true (suc v) n e
+        fills false e = ltb-false (suc v) n e
+    go false Unsettled full h = omega arith
+    go false Steady full h = changeFrom-valid n v w ms r stands window most h
+    go false (Changing c) full h = grown-valid n v w ms r stands window c h
+
+-- and under its own signal
 pub phase-valid : (s : Settings) (v : ℕ) (w ms : List ℕ) (r : ℕ) (stands : Bool) (p : Phase) → ValidWindow 524288 (windowLength s) v w → ValidPhase (windowLength s) v p →
     ValidPhase (windowLength s) (suc v) (movedAfter s v w ms r stands p .phase)
-phase-valid s v w ms r stands p window valid = allowed-valid n (suc v) (movedAfter s v w ms r stands p .phase) (go p (valid-allowed n v p valid))
-  where
-    n : ℕ
-    n = windowLength s
-
-    Before : Phase → Type 0
-    Before q = Allowed n v q
-
-    After : Phase → Type 0
-    After q = Allowed n (suc v) q
-
-    go : (p : Phase) → Before p → After (movedAfter s v w ms r stands p .phase)
-    go Filling h = fills (suc v <ᵇ n) (calm s (s .limit) (pushed n v w r)) refl
-      where
-        fills : (b c : Bool) → (suc v <ᵇ n) ≡ b → After (if (if b then false else c) then Steady else if b then Filling else Unsettled)
-        fills true c e = ltb-true (suc v) n e
-        fills false true e = ltb-false (suc v) n e
-        fills false false e = ltb-false (suc v) n e
-    go Unsettled h = settles (calm s (s .limit) (pushed n v w r))
-      where
-        settles : (c : Bool) → After (if c then Steady else Unsettled)
-        settles true = omega arith
-        settles false = omega arith
-    go Steady h = leaves (calm s (s .limit) (pushed n v w r))
-      where
-        leaves : (c : Bool) → After (if c then Steady else Changing (changeFrom (joiningOf n v w ms r stands)))
-        leaves true = omega arith
-        leaves false = changeFrom-valid n v w ms r stands window (windowLength-most s) h
-    go (Changing c) h = stays (steadyAfter s v w r (Changing c))
-      where
-        stays : (b : Bool) → After (if b then Steady else Changing (grown n (joiningOf n v w ms r stands) c))
-        stays true = omega (arith, h .0, h .1 .0)
-        stays false = grown-valid n v w ms r stands window c h
+phase-valid s v w ms r stands p window valid =
+    let n = windowLength s in
+    let full = true-full n v (signalIn p) (calm s (limitIn s (signalIn p)) (pushed n v w r)) (valid-signal n v p valid) in
+    moved-valid n v w ms r stands (steadyAfter s v w r (signalIn p)) p (windowLength-most s) full window valid

@@ -1,4 +1,4 @@
-// Rapid voltage changes: the phase, with what a change in progress carries, and one value's step.
+// Rapid voltage changes: the steady signal, the phase with what a change in progress carries, and one value's step of each.
 use reading::Event;
 use reading::Record;
 use settings::Scaled;
@@ -8,7 +8,16 @@ ghost use mathlib.Core.Bool.{_||_};
 ghost use Prim.Native.Nat.{_*_, _≤_, max};
 ghost use Rattle.numbers.specs.Notation.{_<ᵇ_, _≡ᵇ_, if_then_else_};
 ghost use Rattle.reading.specs.Changes.{gap};
-ghost use Rattle.rvc.specs.Phase.{changeFrom, grown, closing, heldAt, limitOf, steadyBy, onward, endedOf, movedOn, Joins};
+ghost use Rattle.rvc.specs.Signal.{limitOf, heldAt, steadyBy, signalAfter, TestReady};
+ghost use Rattle.rvc.specs.Phase.{changeFrom, grown, closing, signalIn, onward, endedOf, movedBy, movedOn, Joins};
+
+// The steady signal, with what must be kept of it: fewer than N values; never yet true; true; false since value k.
+pub enum Signal {
+    Filling,
+    Unsettled,
+    Steady,
+    Changing(u64),
+}
 
 // A change in progress.
 pub struct Change {
@@ -92,6 +101,72 @@ fn marked(window_length: u64, age: u64, mark: u64, kept: bool) -> bool
     kept
 }
 
+impl Signal {
+    // The limit in force.
+    fn limit(self, scaled: Scaled) -> u64
+        ensures { λ r. ⌜ r ≡ limitOf scaled self ⌝ }
+    {
+        match self {
+            Signal::Filling => scaled.limit,
+            Signal::Unsettled => scaled.limit,
+            Signal::Steady => scaled.limit,
+            Signal::Changing(_) => numbers::minus(scaled.limit, scaled.reduction),
+        }
+    }
+
+    // Whether it is false at value i, whatever the window: while it fills, and in a change up to k + N.
+    fn holds(self, window_length: u64, i: u64) -> bool
+        ensures { λ b. ⌜ b ≡ heldAt «window_length» i self ⌝ }
+    {
+        match self {
+            Signal::Filling => i < window_length,
+            Signal::Unsettled => false,
+            Signal::Steady => false,
+            Signal::Changing(start) => numbers::minus(i, start) <= window_length,
+        }
+    }
+
+    // Whether it is true at a value, the newest of a window with this sum whose other values are `part`. While it is held the window is not looked at.
+    pub fn is_true(
+        self,
+        scaled: Scaled,
+        window_length: u64,
+        part: &[u32],
+        number: u64,
+        value: u32,
+        sum: u64,
+    ) -> bool
+        requires { ⌜ TestReady scaled «window_length» sum self ⌝ }
+        ensures { λ b. ⌜ b ≡ steadyBy scaled «window_length» (now (part .entry)) number value sum self ⌝ }
+    {
+        if self.holds(window_length, number) {
+            return false;
+        }
+        window::calm(part, value, window_length, sum, self.limit(scaled))
+    }
+
+    // After value i, at which it is true or not.
+    pub fn after(self, window_length: u64, i: u64, truth: bool) -> Signal
+        ensures { λ r. ⌜ r ≡ signalAfter «window_length» i truth self ⌝ }
+    {
+        if truth {
+            return Signal::Steady;
+        }
+        match self {
+            Signal::Filling => {
+                if i < window_length {
+                    Signal::Filling
+                } else {
+                    Signal::Unsettled
+                }
+            }
+            Signal::Unsettled => Signal::Unsettled,
+            Signal::Steady => Signal::Changing(i),
+            Signal::Changing(start) => Signal::Changing(start),
+        }
+    }
+}
+
 impl Change {
     // A change that begins with a value.
     fn begin(joining: Joining) -> Change
@@ -152,45 +227,16 @@ impl Change {
 }
 
 impl Phase {
-    // The limit in force.
-    fn limit(self, scaled: Scaled) -> u64
-        ensures { λ r. ⌜ r ≡ limitOf scaled self ⌝ }
+    // The signal that it stands under.
+    pub fn signal(self) -> Signal
+        ensures { λ r. ⌜ r ≡ signalIn self ⌝ }
     {
         match self {
-            Phase::Filling => scaled.limit,
-            Phase::Unsettled => scaled.limit,
-            Phase::Steady => scaled.limit,
-            Phase::Changing(_) => numbers::minus(scaled.limit, scaled.reduction),
+            Phase::Filling => Signal::Filling,
+            Phase::Unsettled => Signal::Unsettled,
+            Phase::Steady => Signal::Steady,
+            Phase::Changing(change) => Signal::Changing(change.start),
         }
-    }
-
-    // Whether the signal is false at value i, whatever the window: while it fills, and in a change up to k + N.
-    fn holds(self, window_length: u64, i: u64) -> bool
-        ensures { λ b. ⌜ b ≡ heldAt «window_length» i self ⌝ }
-    {
-        match self {
-            Phase::Filling => i < window_length,
-            Phase::Unsettled => false,
-            Phase::Steady => false,
-            Phase::Changing(change) => numbers::minus(i, change.start) <= window_length,
-        }
-    }
-
-    // The signal at a value, the newest of a window whose other values are `part`. While it is held the window is not looked at.
-    fn is_steady(self, scaled: Scaled, window_length: u64, part: &[u32], joining: Joining) -> bool
-        requires { ⌜ Joins scaled «window_length» joining self ⌝ }
-        ensures { λ b. ⌜ b ≡ steadyBy scaled «window_length» (now (part .entry)) joining self ⌝ }
-    {
-        if self.holds(window_length, joining.number) {
-            return false;
-        }
-        window::calm(
-            part,
-            joining.value,
-            window_length,
-            joining.after,
-            self.limit(scaled),
-        )
     }
 
     // After a value at which the signal is false.
@@ -227,12 +273,12 @@ impl Phase {
         }
     }
 
-    // After a value, the newest of a window whose other values are `part`.
-    pub fn step(self, scaled: Scaled, window_length: u64, part: &[u32], joining: Joining) -> Moved
-        requires { ⌜ Joins scaled «window_length» joining self ⌝ }
-        ensures { λ r. ⌜ r ≡ movedOn scaled «window_length» (now (part .entry)) joining self ⌝ }
+    // After a value at which the signal is true or not: its own, or one that several channels share.
+    pub fn moved(self, window_length: u64, joining: Joining, steady: bool) -> Moved
+        requires { ⌜ («window_length» ≤ 120) × (joining .leaving ≤ 524288) ⌝ }
+        ensures { λ r. ⌜ r ≡ movedBy «window_length» joining steady self ⌝ }
     {
-        if self.is_steady(scaled, window_length, part, joining) {
+        if steady {
             let ended = self.ended(window_length, joining);
             return Moved {
                 phase: Phase::Steady,
@@ -244,5 +290,21 @@ impl Phase {
             phase,
             ended: Ended::Nothing,
         }
+    }
+
+    // After a value, the newest of a window whose other values are `part`, under its own signal.
+    pub fn step(self, scaled: Scaled, window_length: u64, part: &[u32], joining: Joining) -> Moved
+        requires { ⌜ Joins scaled «window_length» joining self ⌝ }
+        ensures { λ r. ⌜ r ≡ movedOn scaled «window_length» (now (part .entry)) joining self ⌝ }
+    {
+        let steady = self.signal().is_true(
+            scaled,
+            window_length,
+            part,
+            joining.number,
+            joining.value,
+            joining.after,
+        );
+        self.moved(window_length, joining, steady)
     }
 }

@@ -1,20 +1,21 @@
--- What samples do to a logger's state, from the state only: a part of a half-cycle, the part that ends one, one sample.
-use mathlib.Core.Bool.{Bool, false}
+-- What samples do to a logger's state, from the state only: a part of a half-cycle, the part that ends one, and so one sample.
+use mathlib.Core.Bool.{Bool}
 use mathlib.Core.List.{List, [], _∷_, _++_}
 use Prim.Native.Nat.{ℕ, _+_}
 use lib.ListN.{length}
 use lib.IntN.{ℤ}
-use Rattle.numbers.specs.Notation.{_<ᵇ_, if_then_else_, flag}
+use Rattle.numbers.specs.Notation.{_<ᵇ_, flag}
 use Rattle.settings.specs.Settings.{windowLength}
 use Rattle.reading.specs.declared.Record.{Record}
 use Rattle.rms.specs.declared.Marked.{Marked}
 use Rattle.reading.specs.Feed.{lastValue}
 use Rattle.rms.specs.declared.Part.{Part}
 use Rattle.rms.specs.declared.Gatherer.{Gatherer}
-use Rattle.rms.specs.Gather.{partOf, withPart, withHalf, endsWith, valueFrom}
+use Rattle.rms.specs.Gather.{partOf, withPart, withHalf, cut, valueFrom}
 use Rattle.window.specs.Window.{pushed}
 use Rattle.detection.specs.Detection.{detectorAfter, dueAt}
 use Rattle.greedy.specs.Greedy.{Machine}
+use Rattle.greedy.specs.Cutter.{Cutter, whyNotBy, machineOf}
 use Rattle.state.specs.declared.State.{State}
 use Rattle.state.specs.State.{stateWith}
 
@@ -57,16 +58,17 @@ halfJoined st p = withValues (valueOut st p) (withGatherer st (withHalf (st .gat
 
 -- why such a part is not taken: 2 past V's end, 1 no room for its records; 0 where it is
 abbrev pub whyNot : State → Part → ℕ → ℕ
-whyNot st p room = if passesEnd st p then 2 else if room <ᵇ length (halfDue st p) then 1 else 0
+whyNot st p room = whyNotBy (passesEnd st p) (halfDue st p) room
 
--- whether the next sample ends the half-cycle in progress
-abbrev pub endsHalf : State → ℤ → Bool
-endsHalf st x = endsWith (st .settings .samples) (st .gatherer) x
-
--- sample by sample
-abbrev pub machine : Machine State
-machine = record {
-  atEnd = λ st x. if endsHalf st x then passesEnd st (partOf (x ∷ [])) else false;
-  dueWith = λ st x. if endsHalf st x then halfDue st (partOf (x ∷ [])) else [];
-  next = λ st x. if endsHalf st x then halfJoined st (partOf (x ∷ [])) else partJoined st (partOf (x ∷ []));
+-- by half-cycles, as the cut has them; and so sample by sample
+abbrev pub cutter : Cutter ℤ State
+cutter = record {
+  cut = λ st xs. cut (st .settings .samples) (st .gatherer) xs;
+  part = λ st xs. partJoined st (partOf xs);
+  passes = λ st xs. passesEnd st (partOf xs);
+  due = λ st xs. halfDue st (partOf xs);
+  half = λ st xs. halfJoined st (partOf xs);
 }
+
+abbrev pub machine : Machine ℤ State
+machine = machineOf cutter

@@ -26,6 +26,7 @@ use Rattle.reading.specs.Feed.{lastValue, dueAfter, completed, withinEnd}
 use Rattle.reading.specs.Image.{phaseNumber}
 use Rattle.reading.specs.Engineer.{readings}
 use Rattle.reading_laws.specs.RecordingsLaws.{length-history, length-marks, valueCount-grow, history-grow, marks-grow}
+use Rattle.reading_laws.specs.Past.{past}
 use Rattle.rms.specs.declared.Part.{Part}
 use Rattle.rms.specs.declared.Gatherer.{Gatherer}
 use Rattle.rms.specs.Gather.{partOf, withPart, withHalf, valueFrom, gathererOf}
@@ -35,10 +36,11 @@ use Rattle.window.specs.WindowFollows.{windowOf-none, window-follows, windowSum
 use Rattle.rvc.specs.Phase.{phaseOn}
 use Rattle.detection.specs.Detection.{noValue, dueAt}
 use Rattle.detection.specs.DetectionFollows.{detector-follows, due-follows}
+use Rattle.greedy.specs.Cutter.{endsHalf}
 use Rattle.greedy.specs.GreedyFollows.{StepsFollow}
 use Rattle.state.specs.declared.State.{State}
 use Rattle.state.specs.State.{fresh, stateWith, stateOn, stateOf, phaseNumberOf, readingsOf}
-use Rattle.state.specs.Step.{withValue, withValues, dueOn, withGatherer, partJoined, passesEnd, halfDue, halfJoined, endsHalf, machine}
+use Rattle.state.specs.Step.{withValue, withValues, dueOn, withGatherer, partJoined, passesEnd, halfDue, halfJoined, cutter, machine}
 
 -- new values after a history, newest first, and their marks
 abbrev sizes : List Marked → List ℕ → List ℕ
@@ -120,7 +122,7 @@ module _ (s : Settings) (some : 0 < s .samples) (rec : List ℤ) (x : ℤ) where
 
   -- the values that come out with it
   abbrev outs : List Marked
-  outs = if endsHalf (stateOf s rec) x then valueFrom m g p else []
+  outs = if endsHalf cutter (stateOf s rec) x then valueFrom m g p else []
 
   beside : length (marksOf s rec) ≡ length (values s rec)
   beside = omega (arith, length-marks s rec (valueCount s rec), length-history s rec (valueCount s rec))
@@ -130,7 +132,7 @@ module _ (s : Settings) (some : 0 < s .samples) (rec : List ℤ) (x : ℤ) where
 
   pub atEnd-of : valueCount s rec ≤ lastValue → machine .atEnd (stateOf s rec) x ≡ not (withinEnd s rec (x ∷ []) 1)
   unfolding passesEnd
-  atEnd-of within = go (endsHalf (stateOf s rec) x) ∙ ((λ i. lastValue <ᵇ count-is i) ∙ past-not lastValue (valueCount s longer))
+  atEnd-of within = go (endsHalf cutter (stateOf s rec) x) ∙ ((λ i. lastValue <ᵇ count-is i) ∙ past-not lastValue (valueCount s longer))
     where
       go : (b : Bool) → (if b then passesEnd (stateOf s rec) p else false) ≡ (lastValue <ᵇ length (if b then valueFrom m g p else []) + length (values s rec))
       go true = refl
@@ -138,7 +140,7 @@ module _ (s : Settings) (some : 0 < s .samples) (rec : List ℤ) (x : ℤ) where
 
   pub due-of : machine .dueWith (stateOf s rec) x ≡ completed s rec (x ∷ []) 1
   unfolding halfDue
-  due-of = go (endsHalf (stateOf s rec) x) ∙ (dueOn-follows s g (values s rec) (marksOf s rec) beside outs ∙ sym completed-is)
+  due-of = go (endsHalf cutter (stateOf s rec) x) ∙ (dueOn-follows s g (values s rec) (marksOf s rec) beside outs ∙ sym completed-is)
     where
       go : (b : Bool) → (if b then halfDue (stateOf s rec) p else []) ≡ dueOn (if b then valueFrom m g p else []) (stateOf s rec)
       go true = refl
@@ -169,7 +171,7 @@ module _ (s : Settings) (some : 0 < s .samples) (rec : List ℤ) (x : ℤ) where
   pub next-of : machine .next (stateOf s rec) x ≡ stateOf s longer
   unfolding halfJoined
   next-of =
-      go (endsHalf (stateOf s rec) x)
+      go (endsHalf cutter (stateOf s rec) x)
       ∙ ((λ i. withValues outs (stateOn s (gatherer-follows s some rec x i) (values s rec) (marksOf s rec)))
       ∙ (withValues-follows s (gathererOf s longer) (values s rec) (marksOf s rec) beside outs
       ∙ (λ i. stateOn s (gathererOf s longer) (sym (values-follow s some rec x) i) (sym (marks-follow s some rec x) i))))
@@ -179,7 +181,7 @@ module _ (s : Settings) (some : 0 < s .samples) (rec : List ℤ) (x : ℤ) where
       go true = refl
       go false = refl
 
-pub steps-of : (s : Settings) → 0 < s .samples → StepsFollow s machine (stateOf s)
+pub steps-of : (s : Settings) → 0 < s .samples → StepsFollow (past s) machine (stateOf s)
 steps-of s some = record { atEnd-of = atEnd-of s some; due-of = due-of s some; next-of = next-of s some }
 
 -- the fresh logger is the one of the empty recording

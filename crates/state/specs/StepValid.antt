@@ -18,6 +18,7 @@ use Rattle.rms.specs.declared.Marked.{Marked}
 use Rattle.reading.specs.Clipping.{valueClipped, marks, marksOf}
 use Rattle.reading.specs.Restore.{valueMost}
 use Rattle.reading.specs.Feed.{lastValue}
+use Rattle.reading_laws.specs.Past.{past}
 use Rattle.reading_laws.specs.RecordingsLaws.{length-history, length-marks, value-le}
 use Rattle.rms.specs.declared.Part.{Part}
 use Rattle.rms.specs.declared.Gatherer.{Gatherer}
@@ -101,7 +102,7 @@ history-small s rec are some zero j = omega arith
 history-small s rec are some (suc i) zero = value-le s rec are some (suc i)
 history-small s rec are some (suc i) (suc j) = history-small s rec are some i j
 
-pub stateOf-valid : (s : Settings) (rec : List ℤ) → ValidSettings s → Recording s rec → ValidState (stateOf s rec)
+pub stateOf-valid : (s : Settings) (rec : List ℤ) → ValidSettings s → Recording (past s) Samples rec → ValidState (stateOf s rec)
 stateOf-valid s rec valid recorded =
     let some : 0 < s .samples = omega (arith, valid .samples-valid .0) in
     let small = history-small s rec (recorded .samples) some (valueCount s rec) in
@@ -120,7 +121,7 @@ stateOf-valid s rec valid recorded =
       none-whole = λ w. omega (arith, l, ltb-false 0 (halves s rec) (flag-none (0 <ᵇ halves s rec) w));
     }
 
-pub recording-none : (s : Settings) → Recording s []
+pub recording-none : (s : Settings) → Recording (past s) Samples []
 recording-none s = record { samples = tt; within = omega (arith, halves-none s) }
 
 pub fresh-valid : (s : Settings) → ValidSettings s → ValidState (fresh s)

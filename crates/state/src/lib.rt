@@ -21,7 +21,7 @@ pub struct State {
 }
 
 // The sum of a window of `window_length` after `count` values, 0 while it is not full.
-fn full_sum(window: &[u32], window_length: u64, count: u64) -> u64
+pub fn full_sum(window: &[u32], window_length: u64, count: u64) -> u64
     requires { ⌜ («window_length» ≤ length (now window)) × («window_length» ≤ 120) ⌝ }
     ensures { λ r. ⌜ r ≡ (if count <ᵇ «window_length» then 0 else sumOf (take «window_length» (now (window .entry)))) ⌝ }
 {
@@ -32,7 +32,7 @@ fn full_sum(window: &[u32], window_length: u64, count: u64) -> u64
 }
 
 // 01's number of a phase.
-fn phase_number(phase: Phase) -> u8
+pub fn phase_number(phase: Phase) -> u8
     ensures { λ r. ⌜ r ≡ phaseNumberOf phase ⌝ }
 {
     match phase {

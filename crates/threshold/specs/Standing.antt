@@ -49,6 +49,10 @@ stepped k i r clipped begins ends p =
     else if p .start ≡ᵇ 0 then noEvent
     else worsened k r clipped p
 
+-- the first standing value after value i, from the one before it
+abbrev pub sinceAfter : ℕ → Bool → Bool → ℕ → ℕ
+sinceAfter i begins ends before = if begins then (if before ≡ᵇ 0 then i else before) else if ends then 0 else before
+
 -- the record of the event that stood as p before value i and, as q says, stands no longer after it, with its kind's number
 abbrev pub endedAt : ℕ → ℕ → Standing → Standing → Ended
 endedAt code i p q =
@@ -65,8 +69,12 @@ abbrev pub magnitudeSince : Kind → ℕ → List ℕ → ℕ
 magnitudeSince k zero hist = 0
 magnitudeSince k (suc a) hist = magnitude k (since (suc a) hist)
 
+-- an event that stands since value a, none where a is 0; and the one that the settings' levels say
+abbrev pub standingSince : Kind → ℕ → List ℕ → List ℕ → Standing
+standingSince k a hist ms = record { start = a; magnitude = magnitudeSince k a hist; clipped = clippedSince a ms }
+
 abbrev pub standingOf : Settings → Kind → List ℕ → List ℕ → Standing
-standingOf s k hist ms = let a = standsSince s k hist in record { start = a; magnitude = magnitudeSince k a hist; clipped = clippedSince a ms }
+standingOf s k hist ms = standingSince k (standsSince s k hist) hist ms
 
 -- what refusal 11 allows of an event, after v values
 abbrev pub ValidStanding : ℕ → Standing → Type 0

@@ -1,5 +1,5 @@
 -- The step follows the history, for every kind: the state read from a history, stepped by a value, is the state read from the longer history, and the
--- record that ends is the one that the reading has due, with its mark.
+-- record that ends is the one that the reading has due, with its mark. First for any test of beginning and ending, then for that of the settings' levels.
 use mathlib.Core.Path.{_≡_, refl, sym, _∙_, ap}
 use mathlib.Core.Bool.{Bool, true, false, _&&_, _||_, or-false}
 use mathlib.Core.List.{List, [], _∷_, map}
@@ -16,19 +16,22 @@ use Rattle.reading.specs.declared.Event.{Event}
 use Rattle.reading.specs.Values.{since, upTo}
 use Rattle.reading.specs.Clipping.{anyMarked, clippedSince, lastMeasured, eventClipped, recordOf}
 use Rattle.reading.specs.Thresholds.{begins, ends, standsSince, magnitude, kindNumber, thresholdDue}
-use Rattle.threshold.specs.declared.Standing.{Standing}
 use Rattle.threshold.specs.declared.Ended.the-variants.{Nothing, Over}
-use Rattle.threshold.specs.Standing.{worse, worsened, stepped, endedAt, listOf, magnitudeSince, standingOf}
+use Rattle.threshold.specs.Standing.{worse, worsened, stepped, sinceAfter, endedAt, listOf, magnitudeSince, standingSince, standingOf}
 
-standsSince-le : (s : Settings) (k : Kind) (hist : List ℕ) → standsSince s k hist ≤ length hist
-standsSince-le s k [] = omega arith
-standsSince-le s k (r ∷ older) = go (begins s k r) (ends s k r) (standsSince s k older ≡ᵇ 0) (standsSince s k older) (standsSince-le s k older)
+-- the first standing value is one of the values
+pub sinceAfter-le : (v : ℕ) (begins ends : Bool) (before : ℕ) → before ≤ v → sinceAfter (suc v) begins ends before ≤ suc v
+sinceAfter-le v begins ends before h = go begins ends (before ≡ᵇ 0)
   where
-    go : (b e z : Bool) (a : ℕ) → a ≤ length older → (if b then (if z then suc (length older) else a) else if e then 0 else a) ≤ suc (length older)
-    go true e true a h = omega arith
-    go true e false a h = omega arith
-    go false true z a h = omega arith
-    go false false z a h = omega arith
+    go : (b e z : Bool) → (if b then (if z then suc v else before) else if e then 0 else before) ≤ suc v
+    go true e true = omega arith
+    go true e false = omega arith
+    go false true z = omega arith
+    go false false z = omega arith
+
+pub standsSince-le : (s : Settings) (k : Kind) (hist : List ℕ) → standsSince s k hist ≤ length hist
+standsSince-le s k [] = omega arith
+standsSince-le s k (r ∷ older) = sinceAfter-le (length older) (begins s k r) (ends s k r) (standsSince s k older) (standsSince-le s k older)
 
 -- the magnitude with one value more
 magnitude-cons : (k : Kind) (r x : ℕ) (xs : List ℕ) → magnitude k (r ∷ (x ∷ xs)) ≡ worse k r (magnitude k (x ∷ xs))
@@ -71,66 +74,73 @@ module _ (clipped : Bool) (ms : List ℕ) where
       let e : suc (suc (length ms)) - suc (length ms) ≡ 1 = omega arith in
       rw (e, flag-back clipped) (or-false clipped)
 
+-- the event that stood from value a to the newest of the older ones
+abbrev pub stoodUntil : Kind → List ℕ → ℕ → Event
+stoodUntil k older a = record { kind = kindNumber k; start = a; duration = suc (length older) - a; first = magnitude k (since a older); second = 0 }
+
 -- a value r, clipped or not, after older ones, each with its mark
-module _ (s : Settings) (k : Kind) (r : ℕ) (older : List ℕ) (clipped : Bool) (ms : List ℕ) (beside : length ms ≡ length older) where
-  abbrev now : List ℕ
-  now = flag clipped ∷ ms
+module _ (k : Kind) (r : ℕ) (older : List ℕ) (clipped : Bool) (ms : List ℕ) (beside : length ms ≡ length older) where
+  abbrev i : ℕ
+  i = suc (length older)
 
-  pub follows : stepped k (suc (length older)) r clipped (begins s k r) (ends s k r) (standingOf s k older ms) ≡ standingOf s k (r ∷ older) now
+  abbrev marked : List ℕ
+  marked = flag clipped ∷ ms
+
+  on : (a : ℕ) → suc a ≤ length older → worsened k r clipped (standingSince k (suc a) older ms) ≡ standingSince k (suc a) (r ∷ older) marked
+  on a h =
+      let m = goes-on k r older (suc a) (omega arith) h in
+      let c = clipped-on clipped ms (suc a) (omega arith) (omega arith) in
+      λ j. record { start = suc a; magnitude = sym m j; clipped = sym c j }
+
+  begun : record { start = i; magnitude = r; clipped = clipped } ≡ standingSince k i (r ∷ older) marked
+  begun =
+      let c = ap (λ (n : ℕ). clippedSince (suc n) marked) (sym beside) ∙ clipped-now clipped ms in
+      λ j. record { start = i; magnitude = sym (begins-now k r older) j; clipped = sym c j }
+
+  -- whatever begins and ends the event
+  pub since-follows : (begins ends : Bool) (before now : ℕ) → before ≤ length older → now ≡ sinceAfter i begins ends before →
+      stepped k i r clipped begins ends (standingSince k before older ms) ≡ standingSince k now (r ∷ older) marked
   unfolding stepped
-  follows = go (begins s k r) (ends s k r) (standsSince s k older) (standsSince-le s k older)
+  since-follows begins ends before now h e = go begins ends before h ∙ ap (λ (a : ℕ). standingSince k a (r ∷ older) marked) (sym e)
     where
-      state : ℕ → List ℕ → List ℕ → Standing
-      state a hist ms = record { start = a; magnitude = magnitudeSince k a hist; clipped = clippedSince a ms }
-
-      on : (a : ℕ) → suc a ≤ length older → worsened k r clipped (state (suc a) older ms) ≡ state (suc a) (r ∷ older) now
-      on a h =
-          let m = goes-on k r older (suc a) (omega arith) h in
-          let c = clipped-on clipped ms (suc a) (omega arith) (omega arith) in
-          λ j. record { start = suc a; magnitude = sym m j; clipped = sym c j }
-
-      begun : record { start = suc (length older); magnitude = r; clipped = clipped } ≡ state (suc (length older)) (r ∷ older) now
-      begun =
-          let c = ap (λ (n : ℕ). clippedSince (suc n) now) (sym beside) ∙ clipped-now clipped ms in
-          λ j. record { start = suc (length older); magnitude = sym (begins-now k r older) j; clipped = sym c j }
-
-      go : (b e : Bool) (a : ℕ) → a ≤ length older →
-          stepped k (suc (length older)) r clipped b e (state a older ms)
-          ≡ state (if b then (if a ≡ᵇ 0 then suc (length older) else a) else if e then 0 else a) (r ∷ older) now
+      go : (b e : Bool) (a : ℕ) → a ≤ length older → stepped k i r clipped b e (standingSince k a older ms) ≡ standingSince k (sinceAfter i b e a) (r ∷ older) marked
       go true e zero h = begun
       go true e (suc a) h = rw eqb·suc-zero (on a h)
       go false true a h = refl
       go false false zero h = refl
       go false false (suc a) h = rw eqb·suc-zero (on a h)
 
-  pub ended-follows :
-      listOf (endedAt (kindNumber k) (suc (length older)) (standingOf s k older ms) (standingOf s k (r ∷ older) now)) ≡ map (recordOf now) (thresholdDue s k (r ∷ older))
-  ended-follows = go (standsSince s k older) (standsSince-le s k older) (standsSince s k (r ∷ older) ≡ᵇ 0)
+  abbrev stood : ℕ → Event
+  stood a = stoodUntil k older a
+
+  -- its last value is the one before r
+  last : (k : Kind) (a x : ℕ) → a ≤ length older
+      → lastMeasured (record { kind = kindNumber k; start = a; duration = i - a; first = x; second = 0 }) ≡ length ms
+  last Dip a x h = omega arith
+  last Swell a x h = omega arith
+  last Interruption a x h = omega arith
+
+  its-mark : (a : ℕ) → suc a ≤ length older → clippedSince (suc a) ms ≡ eventClipped marked (stood (suc a))
+  its-mark a h =
+      let e : suc (length ms) - length ms ≡ 1 = omega arith in
+      let l = last k (suc a) (magnitude k (since (suc a) older)) h in
+      sym (ap (λ (i : ℕ). anyMarked (since (suc a) (upTo i marked))) l ∙ ap (λ (i : ℕ). anyMarked (since (suc a) (drop i marked))) e)
+
+  pub since-ended : (before now : ℕ) → before ≤ length older →
+      listOf (endedAt (kindNumber k) i (standingSince k before older ms) (standingSince k now (r ∷ older) marked))
+      ≡ map (recordOf marked) (if 0 <ᵇ before && now ≡ᵇ 0 then stoodUntil k older before ∷ [] else [])
+  since-ended zero now h = refl
+  since-ended (suc a) now h = listed (0 <ᵇ suc a && now ≡ᵇ 0)
     where
-      made : ℕ → ℕ → Event
-      made a x = record { kind = kindNumber k; start = a; duration = suc (length older) - a; first = x; second = 0 }
+      listed : (b : Bool) →
+          listOf (if b then Over (record { event = stood (suc a); clipped = clippedSince (suc a) ms }) else Nothing) ≡ map (recordOf marked) (if b then stood (suc a) ∷ [] else [])
+      listed true = λ j. record { event = stood (suc a); clipped = its-mark a h j } ∷ []
+      listed false = refl
 
-      -- its last value is the one before r
-      last : (k : Kind) (a x : ℕ) → a ≤ length older
-          → lastMeasured (record { kind = kindNumber k; start = a; duration = suc (length older) - a; first = x; second = 0 }) ≡ length ms
-      last Dip a x h = omega arith
-      last Swell a x h = omega arith
-      last Interruption a x h = omega arith
+  -- by the settings' levels
+  module _ (s : Settings) where
+    pub follows : stepped k i r clipped (begins s k r) (ends s k r) (standingOf s k older ms) ≡ standingOf s k (r ∷ older) marked
+    follows = since-follows (begins s k r) (ends s k r) (standsSince s k older) (standsSince s k (r ∷ older)) (standsSince-le s k older) refl
 
-      marked : (a x : ℕ) → suc a ≤ length older → clippedSince (suc a) ms ≡ eventClipped now (made (suc a) x)
-      marked a x h =
-          let e : suc (length ms) - length ms ≡ 1 = omega arith in
-          sym (ap (λ (i : ℕ). anyMarked (since (suc a) (upTo i now))) (last k (suc a) x h) ∙ ap (λ (i : ℕ). anyMarked (since (suc a) (drop i now))) e)
-
-      go : (a : ℕ) → a ≤ length older → (z : Bool)
-          → listOf (if 0 <ᵇ a && z then Over (record { event = made a (magnitudeSince k a older); clipped = clippedSince a ms }) else Nothing)
-          ≡ map (recordOf now) (if 0 <ᵇ a && z then made a (magnitude k (since a older)) ∷ [] else [])
-      go zero h z = refl
-      go (suc a) h z = listed (0 <ᵇ suc a && z)
-        where
-          e : Event
-          e = made (suc a) (magnitude k (since (suc a) older))
-
-          listed : (b : Bool) → listOf (if b then Over (record { event = e; clipped = clippedSince (suc a) ms }) else Nothing) ≡ map (recordOf now) (if b then e ∷ [] else [])
-          listed true = λ j. record { event = e; clipped = marked a (magnitude k (since (suc a) older)) h j } ∷ []
-          listed false = refl
+    pub ended-follows : listOf (endedAt (kindNumber k) i (standingOf s k older ms) (standingOf s k (r ∷ older) marked)) ≡ map (recordOf marked) (thresholdDue s k (r ∷ older))
+    ended-follows = since-ended (standsSince s k older) (standsSince s k (r ∷ older)) (standsSince-le s k older)

@@ -21,7 +21,7 @@ pub enum Ended {
 }
 
 // Whether a value is beyond the level at which an event begins. Values and levels are compared in 10,000ths.
-fn begins(kind: Kind, level: Threshold, value: u64) -> bool
+pub fn begins(kind: Kind, level: Threshold, value: u64) -> bool
     requires { ⌜ value ≤ 524288 ⌝ }
     ensures { λ b. ⌜ b ≡ beginsAt kind level value ⌝ }
 {
@@ -33,7 +33,7 @@ fn begins(kind: Kind, level: Threshold, value: u64) -> bool
 }
 
 // Whether a value is back at the level at which an event ends.
-fn ends(kind: Kind, level: Threshold, value: u64) -> bool
+pub fn ends(kind: Kind, level: Threshold, value: u64) -> bool
     requires { ⌜ value ≤ 524288 ⌝ }
     ensures { λ b. ⌜ b ≡ endsAt kind level value ⌝ }
 {
@@ -57,7 +57,7 @@ fn higher(a: u64, b: u64) -> u64
 }
 
 // The lower of two values of a dip or an interruption, the higher of a swell's.
-fn worse_of(kind: Kind, a: u64, b: u64) -> u64
+pub fn worse_of(kind: Kind, a: u64, b: u64) -> u64
     ensures { λ r. ⌜ r ≡ worse kind a b ⌝ }
 {
     match kind {
@@ -90,11 +90,18 @@ impl Standing {
     }
 
     // After value i, which begins the event, ends it, or leaves it as it was.
-    pub fn step(self, kind: Kind, level: Threshold, i: u64, value: u64, clipped: bool) -> Standing
-        requires { ⌜ value ≤ 524288 ⌝ }
-        ensures { λ r. ⌜ r ≡ stepped kind i value clipped (beginsAt kind level value) (endsAt kind level value) self ⌝ }
+    pub fn step(
+        self,
+        kind: Kind,
+        i: u64,
+        value: u64,
+        clipped: bool,
+        begins: bool,
+        ends: bool,
+    ) -> Standing
+        ensures { λ r. ⌜ r ≡ stepped kind i value clipped begins ends self ⌝ }
     {
-        if begins(kind, level, value) {
+        if begins {
             if self.start == 0 {
                 return Standing {
                     start: i,
@@ -104,7 +111,7 @@ impl Standing {
             }
             return self.with_value(kind, value, clipped);
         }
-        if ends(kind, level, value) {
+        if ends {
             return Standing::none();
         }
         if self.start == 0 {

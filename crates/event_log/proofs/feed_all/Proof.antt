@@ -14,15 +14,16 @@ use Rattle.event_log.proofs.feed_all.Statement.{statement}
 use Rattle.event_log.proofs.feed_all.Tie as tie
 
 abbrev Inv-loop : tie.InvT-loop
-Inv-loop samples records₀ text₀ held₀ at₀ why₀ printed₀ records text held at why printed =
+Inv-loop samples records₀ text₀ held₀ at₀ why₀ printed₀ name records text held at why printed =
     ValidState (held .state)
     × (at ≤ length samples)
     × (length records ≡ length records₀)
     × (length text ≡ length text₀)
     × (fedAllFrom held₀ samples ≡ rest samples held at why)
+    × (length name ≡ 11)
 
 abbrev μ-loop : tie.MeasureT-loop
-μ-loop samples records₀ text₀ held₀ at₀ why₀ printed₀ records text held at why printed = toFeed samples at why
+μ-loop samples records₀ text₀ held₀ at₀ why₀ printed₀ name records text held at why printed = toFeed samples at why
 
 loop-holds : tie.Need-loop-holds Inv-loop μ-loop
 loop-holds c = search needs
@@ -58,25 +59,28 @@ put-lines-requires c κs =
     let fits = turn-fits (call .before .before .before .before .before .args .samples .now) (loop .at) _ _ (call .feed .ensures .0) in
     (omega arith, omega (arith, loop .inv .2, loop .inv .3))
 
+slice-aggregate-print : tie.Need-slice-aggregate-print Inv-loop μ-loop
+slice-aggregate-print c = search needs
+
 array-share-prefix-text : tie.Need-array-share-prefix-text Inv-loop μ-loop
 array-share-prefix-text c = search needs
 
-slice-aggregate-print : tie.Need-slice-aggregate-print Inv-loop μ-loop
-slice-aggregate-print c = sym (length-take-le _ _ (search needs))
+slice-aggregate-print-2 : tie.Need-slice-aggregate-print-2 Inv-loop μ-loop
+slice-aggregate-print-2 c = sym (length-take-le _ _ (search needs))
 
 print-requires : tie.Need-print-requires Inv-loop μ-loop
 print-requires c κs = search needs
 
 add-at : tie.Need-add-at Inv-loop μ-loop
 add-at c =
-    let call = c .before .before .before .before .before .before .before .before .before .before in
+    let call = c .before .before .before .before .before .before .before .before .before .before .before in
     let loop = call .before .before .before .before .loop in
     let start = call .before .before .before .before .before in
     omega (arith, turn-inside (start .args .samples .now) (loop .at) _ _ (call .feed .ensures .0) (loop .inv .1), start .good)
 
 loop-less : tie.Need-loop-less Inv-loop μ-loop
 loop-less c =
-    let call = c .before .before .before .before .before .before .before .before .before .before in
+    let call = c .before .before .before .before .before .before .before .before .before .before .before in
     let loop = call .before .before .before .before .loop in
     let samples = call .before .before .before .before .before .args .samples .now in
     let told = call .feed .result .told in
@@ -85,16 +89,17 @@ loop-less c =
 
 loop-again : tie.Need-loop-again Inv-loop μ-loop
 loop-again c =
-    let call = c .before .before .before .before .before .before .before .before .before .before in
+    let call = c .before .before .before .before .before .before .before .before .before .before .before in
     let loop = call .before .before .before .before .loop in
     let samples = call .before .before .before .before .before .args .samples .now in (
       call .feed .ensures .1,
       turn-inside samples (loop .at) _ _ (call .feed .ensures .0) (loop .inv .1),
       search needs,
-      search needs,
+      omega (arith, c .before .before .before .before .before .before .put-lines .kept, loop .inv .3),
       loop .inv .4
           ∙ ap (rest samples (loop .held) (loop .at)) (call .before .before .before .loop-test .taken)
           ∙ turn-rest samples (loop .at) _ _ (call .feed .ensures .0),
+      search needs,
     )
 
 returns : tie.Need-returns Inv-loop μ-loop
@@ -116,8 +121,9 @@ feed-all-spec =
     slice-aggregate-put-lines
     slice-aggregate-put-lines-2
     put-lines-requires
-    array-share-prefix-text
     slice-aggregate-print
+    array-share-prefix-text
+    slice-aggregate-print-2
     print-requires
     add-at
     loop-less

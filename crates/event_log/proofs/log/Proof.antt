@@ -11,16 +11,16 @@ use Rattle.event_log.proofs.log.Statement.{statement}
 use Rattle.event_log.proofs.log.Tie as tie
 
 abbrev Inv-loop : tie.InvT-loop
-Inv-loop good₀ logger₀ bytes₀ why₀ more₀ good logger bytes why more = ValidState (logger .state) × (length bytes ≡ 2048)
+Inv-loop good₀ logger₀ bytes₀ why₀ more₀ name good logger bytes why more = ValidState (logger .state) × (length bytes ≡ 2048) × (length name ≡ 11)
 
 abbrev μ-loop : tie.MeasureT-loop
-μ-loop good₀ logger₀ bytes₀ why₀ more₀ good logger bytes why more = leftWhile more (logger .state)
+μ-loop good₀ logger₀ bytes₀ why₀ more₀ name good logger bytes why more = leftWhile more (logger .state)
 
-slice-aggregate-print : tie.Need-slice-aggregate-print Inv-loop μ-loop
-slice-aggregate-print c = search needs
+slice-aggregate-print-heading : tie.Need-slice-aggregate-print-heading Inv-loop μ-loop
+slice-aggregate-print-heading c = search needs
 
-print-requires : tie.Need-print-requires Inv-loop μ-loop
-print-requires c κs = search needs
+print-heading-requires : tie.Need-print-heading-requires Inv-loop μ-loop
+print-heading-requires c κs = search needs
 
 fresh-requires : tie.Need-fresh-requires Inv-loop μ-loop
 fresh-requires c κs = search needs
@@ -30,6 +30,9 @@ loop-holds c = search needs
 
 slice-aggregate-read : tie.Need-slice-aggregate-read Inv-loop μ-loop
 slice-aggregate-read c = search needs
+
+slice-aggregate-read-2 : tie.Need-slice-aggregate-read-2 Inv-loop μ-loop
+slice-aggregate-read-2 c = search needs
 
 read-requires : tie.Need-read-requires Inv-loop μ-loop
 read-requires c κs = search needs
@@ -50,7 +53,7 @@ loop-less : tie.Need-loop-less Inv-loop μ-loop
 loop-less c =
     let call = c .before .before .before .before .before in
     let read = call .before .before .before .read in
-    let test = call .before .before .before .before .before in
+    let test = call .before .before .before .before .before .before in
     let loop = test .before .loop in
     subst⁻¹ (λ (more : Bool). leftWhile (c .goes-on .result) (call .feed-chunk .result .fed .logger .state) < leftWhile more (loop .logger .state)) (test .loop-test .taken)
     (chunk-falls _ _ (call .feed-chunk .result .printed && not (read .result .failed)) _ _ _ (loop .inv .0) (sym (read .ensures .1)) (call .feed-chunk .ensures .0) (c .goes-on .ensures))
@@ -73,11 +76,12 @@ log-spec =
     (tie.spec
     Inv-loop
     μ-loop
-    slice-aggregate-print
-    print-requires
+    slice-aggregate-print-heading
+    print-heading-requires
     fresh-requires
     loop-holds
     slice-aggregate-read
+    slice-aggregate-read-2
     read-requires
     array-share-prefix-bytes
     slice-aggregate-feed-chunk

@@ -9,6 +9,9 @@ use Rattle.event_log.proofs.main.Tie as tie
 slice-aggregate-read : tie.Need-slice-aggregate-read
 slice-aggregate-read c = search needs
 
+slice-aggregate-read-2 : tie.Need-slice-aggregate-read-2
+slice-aggregate-read-2 c = search needs
+
 read-requires : tie.Need-read-requires
 read-requires c κs = search needs
 
@@ -33,6 +36,9 @@ log-requires c κs = read-accepted _ _ (sym (c .before .before .before .from-byt
 enum-known-number : tie.Need-enum-known-number
 enum-known-number c = search needs
 
+slice-aggregate-refuse : tie.Need-slice-aggregate-refuse
+slice-aggregate-refuse c = search needs
+
 cast-refuse : tie.Need-cast-refuse
 cast-refuse c = search needs
 
@@ -50,6 +56,7 @@ main-spec =
     tie.close
     (tie.spec
     slice-aggregate-read
+    slice-aggregate-read-2
     read-requires
     returns
     array-share-prefix-bytes
@@ -58,6 +65,7 @@ main-spec =
     enum-known-settings
     log-requires
     enum-known-number
+    slice-aggregate-refuse
     cast-refuse
     refuse-requires
     returns-2

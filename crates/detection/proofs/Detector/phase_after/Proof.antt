@@ -1,18 +1,12 @@
 -- The part of the window that is lent holds the values that stay in it (`part-is`).
 use mathlib.Core.List.{List}
-use mathlib.Core.Path.{_≡_, _∙_, ap}
-use Prim.Native.Nat.{ℕ, _+_, _-_}
-use native.Mathlib.Omega.{arith}
-use lib.ListN.{take, drop}
+use mathlib.Core.Path.{_∙_, ap}
+use Prim.Native.Nat.{ℕ}
 use borrow.Author.Needs.{needs}
-use Rattle.numbers.specs.Notation.{_<ᵇ_, if_then_else_}
-use Rattle.window.specs.Window.{staying}
 use Rattle.rvc.specs.Phase.{movedOn}
+use Rattle.detection.specs.DetectionLaws.{part-is}
 use Rattle.detection.proofs.Detector.phase_after.Statement.{statement}
 use Rattle.detection.proofs.Detector.phase_after.Tie as tie
-
-part-is : (first n v : ℕ) (w : List ℕ) → first ≡ (if v <ᵇ n then 0 else 1) → take (first + (n - 1) - first) (drop first w) ≡ staying n v w
-part-is first n v w e = let m : first + (n - 1) - first ≡ n - 1 = omega arith in rw (m, e)
 
 first-staying-requires : tie.Need-first-staying-requires
 first-staying-requires c κs = search needs

@@ -1,23 +1,28 @@
--- The phase is steady where the signal is true, and goes on where it is not.
+-- The truth is that of the phase's own signal.
 use borrow.Author.Needs.{needs}
 use Rattle.rvc.proofs.Phase.step.Statement.{statement}
 use Rattle.rvc.proofs.Phase.step.Tie as tie
+use Rattle.rvc.proofs.Phase.step.Reads as reads
+use Rattle.rvc.proofs.Phase.step.Lts as lts
+use Rattle.rvc.proofs.Phase.moved.Reads as moved-reads
+use Rattle.rvc.proofs.Phase.signal.Reads as signal-reads
+use Rattle.rvc.proofs.Signal.is_true.Reads as is-true-reads
 
-is-steady-requires : tie.Need-is-steady-requires
-is-steady-requires c κs = search needs
+-- src/lib.rt:300:22
+signal-requires : tie.Need-signal-requires
+signal-requires c κs = search needs
 
-ended-requires : tie.Need-ended-requires
-ended-requires c κs = search needs
+-- src/lib.rt:300:13
+is-true-requires : tie.Need-is-true-requires
+is-true-requires c κs = rw (c .signal .ensures) (c .before .before .pre .test-ready)
 
+-- src/lib.rt:308:9
+moved-requires : tie.Need-moved-requires
+moved-requires c κs = search needs
+
+-- src/lib.rt:296:5
 returns : tie.Need-returns
-returns c = rw (← c .before .before .is-steady .ensures, c .before .if1 .taken, c .ended .ensures)
-
-onward-requires : tie.Need-onward-requires
-onward-requires c κs = search needs
-
-returns-2 : tie.Need-returns-2
-returns-2 c = rw (← c .before .before .is-steady .ensures, c .before .if1 .left, c .onward .ensures)
+returns c = rw (← c .before .before .signal .ensures, ← c .before .is-true .ensures) (c .moved .ensures)
 
 pub step-spec : {M : Type 1} → statement M
-step-spec =
-    tie.close (tie.spec is-steady-requires ended-requires returns onward-requires returns-2)
+step-spec = tie.close (tie.spec signal-requires is-true-requires moved-requires returns)

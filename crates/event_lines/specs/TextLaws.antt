@@ -1,0 +1,146 @@
+-- The laws of the lines: 01's example, how long a column can be, the digits that `io` makes, text put behind text, and one line more.
+use mathlib.Core.Path.{_≡_, refl, sym, _∙_, ap, subst}
+use mathlib.Core.Bool.{Bool, true, false}
+use mathlib.Core.List.{List, [], _∷_, _++_, append-assoc, append-nil}
+use Prim.Native.Nat.{ℕ, zero, suc, _+_, _-_, _*_, _/_, _%_, _^_, _≤_, _<_}
+use native.Mathlib.Omega.{arith}
+use native.Mathlib.Nat.{pow-suc, one-le-pow, pow-le-pow-right}
+use native.Mathlib.Decide.{decLt}
+use lib.ListN.{length, take, drop, set, getD, length-append, length-drop}
+use lib.Seq.{length-take-le, take-all, take-suc, take-suc-set}
+use borrow.Author.Tests.{lt-ltb, le-ltb, eq-eqb, ne-eqb}
+use Rattle.io.specs.Digits.{digits, glyph, Fewest}
+use Rattle.numbers.specs.Notation.{_<ᵇ_, if_then_else_}
+use Rattle.reading.specs.declared.Event.{Event}
+use Rattle.reading.specs.Layout.{recordLength}
+use Rattle.records.specs.Due.{eventOf}
+use Rattle.event_lines.specs.Text.{decimalTo, column, dip, swell, interruption, rvc, kindName, lineOf, linesOf, Put}
+
+-- 01's line: dip 3 3 800 0
+example : lineOf (record { kind = 1; start = 3; duration = 3; first = 800; second = 0 })
+    ≡ 100 ∷ 105 ∷ 112 ∷ 32 ∷ 51 ∷ 32 ∷ 51 ∷ 32 ∷ 56 ∷ 48 ∷ 48 ∷ 32 ∷ 48 ∷ 10 ∷ []
+unfolding column kindName
+example = refl
+
+-- a column is 21 bytes long at most
+length-decimal : (k n : ℕ) → length (decimalTo k n) ≤ k
+length-decimal zero n = omega arith
+length-decimal (suc k) n = go (n <ᵇ 10) (length-decimal k (n / 10))
+  where
+    go : (b : Bool) → length (decimalTo k (n / 10)) ≤ k → length (if b then (48 + n) ∷ [] else decimalTo k (n / 10) ++ ((48 + n % 10) ∷ [])) ≤ suc k
+    go true ih = omega arith
+    go false ih = omega (arith, length-append (decimalTo k (n / 10)) ((48 + n % 10) ∷ []))
+
+pub length-column : (n : ℕ) → length (column n) ≤ 21
+unfolding column
+length-column n = omega (arith, length-decimal 20 n)
+
+-- a digit in ASCII
+glyph-is : (d : ℕ) → d < 10 → glyph d ≡ 48 + d
+glyph-is d h = rw (lt-ltb d 10 h)
+
+-- `io` makes the fewest digits that hold a number, which are the number's; of 8 bytes 20 at most
+digits-decimal : (f k n : ℕ) → k ≤ f → Fewest 10 1 n k → digits 10 k n ≡ decimalTo f n
+digits-decimal f zero n h few = absurd (omega arith)
+digits-decimal zero (suc k) n h few = absurd (omega arith)
+digits-decimal (suc f) (suc zero) n h few =
+    let below : n < 10 = omega arith in
+    let same : n % 10 ≡ n = omega arith in
+    (λ i. glyph (same i) ∷ []) ∙ ap (λ (d : ℕ). d ∷ []) (glyph-is n below) ∙ rw (lt-ltb n 10 below)
+digits-decimal (suc f) (suc (suc k)) n h few =
+    let least : 10 ^ suc k ≤ n = let e : suc (suc k) - 1 ≡ suc k = omega arith in subst (λ (j : ℕ). 10 ^ j ≤ n) e (few .2 (omega arith)) in
+    let ten : 10 ≤ n = omega (arith, pow-suc 10 k, one-le-pow k 10 (omega arith)) in
+    let fewer : 10 ^ k ≤ n / 10 = omega (arith, pow-suc 10 k, least) in
+    let e : k ≡ suc k - 1 = omega arith in
+    let later : Fewest 10 1 (n / 10) (suc k) = (omega arith, omega (arith, pow-suc 10 (suc k)), λ more. subst (λ (j : ℕ). 10 ^ j ≤ n / 10) e fewer) in
+    ap (λ (l : List ℕ). l ++ (glyph (n % 10) ∷ [])) (digits-decimal f (suc k) (n / 10) (omega arith) later)
+    ∙ ap (λ (d : ℕ). decimalTo f (n / 10) ++ (d ∷ [])) (glyph-is (n % 10) (omega arith))
+    ∙ rw (le-ltb n 10 ten)
+
+pub digits-most : (n k : ℕ) → n < 2 ^ 64 → Fewest 10 1 n k → k ≤ 20
+digits-most n k h few = go (decLt 20 k)
+  where
+    go : Dec (20 < k) → k ≤ 20
+    go (yes more) =
+        let ten : 0 < 10 = omega arith in
+        let long : 20 ≤ k - 1 = omega arith in
+        let power : 10 ^ 20 ≤ 10 ^ (k - 1) = pow-le-pow-right ten long in
+        let least : 10 ^ (k - 1) ≤ n = few .2 (omega arith) in
+        absurd (omega arith)
+    go (no f) = omega (arith, f)
+
+-- text behind text
+pub put-put : (t₀ t₁ t₂ : List ℕ) (at b₁ b₂ : ℕ) (xs ys : List ℕ) → Put t₀ at xs b₁ t₁ → Put t₁ b₁ ys b₂ t₂ → Put t₀ at (xs ++ ys) b₂ t₂
+put-put t₀ t₁ t₂ at b₁ b₂ xs ys p q = record {
+  behind-is = omega (arith, p .behind-is, q .behind-is, length-append xs ys);
+  text-is = q .text-is ∙ ap (λ (t : List ℕ). t ++ ys) (p .text-is) ∙ append-assoc (take at t₀) xs ys;
+}
+
+-- bytes put one by one: the first i of them stand at the place
+module _ (t₀ : List ℕ) (at : ℕ) (b : List ℕ) where
+  abbrev pub PutSoFar : ℕ → List ℕ → Type 0
+  PutSoFar i t = take (at + i) t ≡ take at t₀ ++ take i b
+
+  pub put-none : PutSoFar 0 t₀
+  put-none = let e : at + 0 ≡ at = omega arith in ap (λ (n : ℕ). take n t₀) e ∙ sym (append-nil (take at t₀))
+
+  pub put-one : (i : ℕ) (t : List ℕ) → at + i < length t → i < length b → PutSoFar i t → PutSoFar (i + 1) (set t (at + i) (getD b i 0))
+  put-one i t h l e =
+      let x : ℕ = getD b i 0 in
+      let n : at + (i + 1) ≡ suc (at + i) = omega arith in
+      let k : suc i ≡ i + 1 = omega arith in
+      ap (λ (j : ℕ). take j (set t (at + i) x)) n
+      ∙ take-suc-set t (at + i) x h
+      ∙ ap (λ (l : List ℕ). l ++ (x ∷ [])) e
+      ∙ append-assoc (take at t₀) (take i b) (x ∷ [])
+      ∙ ap (λ (l : List ℕ). take at t₀ ++ l) (sym (take-suc b i 0 l) ∙ ap (λ (j : ℕ). take j b) k)
+
+  pub put-all : (i : ℕ) (t : List ℕ) → i ≡ length b → PutSoFar i t → Put t₀ at b (at + i) t
+  put-all i t whole e = record {
+    behind-is = ap (λ (n : ℕ). at + n) whole;
+    text-is = e ∙ ap (λ (l : List ℕ). take at t₀ ++ l) (take-all i b (omega arith));
+  }
+
+-- the same text, said otherwise
+pub put-as : (t : List ℕ) (at : ℕ) (xs ys : List ℕ) (b : ℕ) (u : List ℕ) → xs ≡ ys → Put t at xs b u → Put t at ys b u
+put-as t at xs ys b u e p = subst (λ (l : List ℕ). Put t at l b u) e p
+
+-- a name and a column, as they are put
+module _ (k : ℕ) where
+  pub name-dip : k ≡ 1 → dip ≡ kindName k
+  unfolding kindName
+  name-dip e = rw (eq-eqb k 1 e)
+
+  pub name-swell : (k ≡ 1 → ⊥) → k ≡ 2 → swell ≡ kindName k
+  unfolding kindName
+  name-swell f e = rw (ne-eqb k 1 f, eq-eqb k 2 e)
+
+  pub name-interruption : (k ≡ 1 → ⊥) → (k ≡ 2 → ⊥) → k ≡ 3 → interruption ≡ kindName k
+  unfolding kindName
+  name-interruption f g e = rw (ne-eqb k 1 f, ne-eqb k 2 g, eq-eqb k 3 e)
+
+  pub name-rvc : (k ≡ 1 → ⊥) → (k ≡ 2 → ⊥) → (k ≡ 3 → ⊥) → rvc ≡ kindName k
+  unfolding kindName
+  name-rvc f g h = rw (ne-eqb k 1 f, ne-eqb k 2 g, ne-eqb k 3 h)
+
+pub column-is : (n k : ℕ) (b : List ℕ) → n < 2 ^ 64 → Fewest 10 1 n k → take k b ≡ digits 10 k n → 32 ∷ take k b ≡ column n
+unfolding column
+column-is n k b h few e = ap (λ (l : List ℕ). 32 ∷ l) (e ∙ digits-decimal 20 k n (digits-most n k h few) few)
+
+-- one record of a buffer, and its line behind those of the records before it
+pub record-length : (records : List ℕ) (i : ℕ) → recordLength * i + recordLength ≤ length records
+    → length (take (recordLength * i + recordLength - recordLength * i) (drop (recordLength * i) records)) ≡ recordLength
+record-length records i h =
+    let n : recordLength * i + recordLength - recordLength * i ≡ recordLength = omega arith in
+    length-take-le (recordLength * i + recordLength - recordLength * i) (drop (recordLength * i) records) (omega (arith, length-drop (recordLength * i) records)) ∙ n
+
+pub lines-next : (records t u : List ℕ) (i at b : ℕ) (e : Event) → take at t ≡ linesOf i records
+    → e ≡ eventOf (take (recordLength * i + recordLength - recordLength * i) (drop (recordLength * i) records))
+    → Put t at (lineOf e) b u → take b u ≡ linesOf (i + 1) records
+lines-next records t u i at b e before is p =
+    let n : recordLength * i + recordLength - recordLength * i ≡ recordLength = omega arith in
+    let k : suc i ≡ i + 1 = omega arith in
+    p .text-is
+    ∙ (λ j. before j ++ lineOf (is j))
+    ∙ ap (λ (l : ℕ). linesOf i records ++ lineOf (eventOf (take l (drop (recordLength * i) records)))) n
+    ∙ ap (λ (l : ℕ). linesOf l records) k
