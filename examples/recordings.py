@@ -1,5 +1,6 @@
 #!/usr/bin/env python3
-"""Writes the recordings of this folder, worked.bin, crusher.bin and busy.bin: settings, then samples.
+"""Writes the recordings of this folder, worked.bin, crusher.bin and busy.bin: settings, then samples; and feeder_three.bin, whose samples are of three channels in
+turn.
 
     python3 examples/recordings.py FOLDER
 
@@ -39,6 +40,15 @@ def crusher():
     return [x for number, level in enumerate(levels) for x in half(number, level)]
 
 
+def feeder():
+    """Three phases: a quiet feed; a motor's start, to 94, 95 and 96 %; its run; then an earth fault, in which a falls to 60 % and b rises to 113 %; its run again."""
+    levels = [
+        [10000] * 110 + start(lowest, 6, 6, 9900) + [9900] * 115 + [fault] * 6 + [9900] * 6
+        for lowest, fault in ((9400, 6000), (9500, 11300), (9600, 9900))
+    ]
+    return [x for number, three in enumerate(zip(*levels)) for triple in zip(*(half(number, level) for level in three)) for x in triple]
+
+
 def worked():
     return [100] * 24 + [50] * 16 + [100] * 24
 
@@ -60,3 +70,4 @@ if __name__ == "__main__":
     write(sys.argv[1], "worked.bin", WORKED, worked())
     write(sys.argv[1], "crusher.bin", CRUSHER, crusher())
     write(sys.argv[1], "busy.bin", WORKED, busy())
+    write(sys.argv[1], "feeder_three.bin", CRUSHER, feeder())

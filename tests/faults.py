@@ -1,10 +1,11 @@
 #!/usr/bin/env python3
 """Runs the example host, and the event program, while their reads and writes fail, and holds what they print to what they should.
 
-    python3 tests/faults.py LOG [EVENT_PROGRAM]
+    python3 tests/faults.py LOG [EVENT_PROGRAM [EVENT_PROGRAM_OF_THREE]]
 
-The two print the same, but for the word behind a clipped record's line, which only the host prints; they differ in the bytes read at a time and in the status
-after a failure, which the event program does not have.
+They print the same, but for the word behind a clipped record's line, which only the host prints; they differ in the bytes read at a time and in the status
+after a failure, which the event programs do not have. The event program of three channels is given each sample three times: three equal channels have the records
+of one.
 """
 import fcntl
 import itertools
@@ -31,14 +32,19 @@ def same(name, got, want):
 
 
 class Program:
-    def __init__(self, path, name, block, failed, library, folder):
-        self.path, self.name, self.block, self.failed = path, name, block, failed
+    def __init__(self, path, name, block, failed, library, folder, channels=1):
+        self.path, self.name, self.block, self.failed, self.channels = path, name, block, failed, channels
         self.library, self.folder = library, folder
+
+    def given(self, recording):
+        """The recording of one channel as the program is given it; a block counts the bytes of one channel, too."""
+        samples = [recording[i : i + 2] * self.channels for i in range(SETTINGS, len(recording), 2)]
+        return recording if self.channels == 1 else recording[:SETTINGS] + b"".join(samples)
 
     def run(self, stdin, fault=None, stdout=subprocess.PIPE, **more):
         """Status, standard output and standard error. Standard input is a file's content, or an open file."""
         content = isinstance(stdin, bytes)
-        file = open(write(os.path.join(self.folder, "input"), stdin), "rb") if content else stdin
+        file = open(write(os.path.join(self.folder, "input"), self.given(stdin)), "rb") if content else stdin
         done = subprocess.run([self.path], stdin=file, stdout=stdout, stderr=subprocess.PIPE, env=environment(self.library, fault), **more)
         if content:
             file.close()
@@ -80,7 +86,8 @@ def waits(program):
     end, start = os.pipe()
     os.set_blocking(end, False)
     running = subprocess.Popen([program.path], stdin=end, stdout=subprocess.PIPE, stderr=subprocess.PIPE)
-    for piece in recording[:9], recording[9:57], recording[57:]:
+    given = program.given(recording)
+    for piece in given[:9], given[9:57], given[57:]:
         time.sleep(0.05)
         os.write(start, piece)
     os.close(start)
@@ -92,7 +99,7 @@ def waits(program):
     end, start = os.pipe()
     fcntl.fcntl(end, fcntl.F_SETPIPE_SZ, 4096)
     os.set_blocking(start, False)
-    with open(write(os.path.join(program.folder, "many"), many), "rb") as file:
+    with open(write(os.path.join(program.folder, "many"), program.given(many)), "rb") as file:
         running = subprocess.Popen([program.path], stdin=file, stdout=start, stderr=subprocess.PIPE)
     os.close(start)
     time.sleep(0.1)
@@ -117,7 +124,7 @@ def reads_fail(program):
     recording, _ = example("busy")
     for length, number, what in (20, 2, "settings"), (SETTINGS + program.block + 1001, 4, "a block"):
         end, start = os.pipe()
-        os.write(start, recording[:length])
+        os.write(start, program.given(recording[:length]))
         status, got, said = program.run(end, f"read:{number}:EIO")
         os.close(start)
         os.close(end)
@@ -250,12 +257,13 @@ def no_files(channel):
 
 
 def main():
-    if len(sys.argv) not in (2, 3):
+    if len(sys.argv) not in (2, 3, 4):
         sys.exit(__doc__)
     with work_folder() as folder:
         library = preload(sys.argv[1])
         log = Program(sys.argv[1], "log", 4096, 2, library, folder)
-        programs = [log] + [Program(path, "event_log", 2048, 0, library, folder) for path in sys.argv[2:]]
+        programs = [log] + [Program(path, "event_log", 2048, 0, library, folder) for path in sys.argv[2:3]]
+        programs += [Program(path, "event_log_three", 8192, 0, library, folder, channels=3) for path in sys.argv[3:]]
         text = example("worked")[1]
         same("log: a write is lost at the close", log.run(example("worked")[0], "close:1:EIO"), (2, text, log.message("output", "EIO")))
         for program in programs:

@@ -188,14 +188,29 @@ fn hex(bytes: &[u8]) -> String {
 }
 
 /// A buffer of this length, every byte of it `fill`, with bytes written at its start.
-fn buffer(length: usize, fill: u8, written: &[u8]) -> String {
+pub fn buffer(length: usize, fill: u8, written: &[u8]) -> String {
     let mut bytes = vec![fill; length];
     bytes[..written.len()].copy_from_slice(written);
     hex(&bytes)
 }
 
 impl List {
-    fn item(&mut self, kind: u8, fill: u8, number: usize, bytes: &[u8]) {
+    /// What differs first between the text that was printed and the list's.
+    pub fn difference(&self, printed: &str) -> Option<String> {
+        if printed == self.text {
+            return None;
+        }
+        let mut lines = printed.lines();
+        for (j, line) in self.text.lines().enumerate() {
+            let other = lines.next().unwrap_or("the end");
+            if line != other {
+                return Some(format!("line {}: {other}\nnot {line}", j + 1));
+            }
+        }
+        Some("more lines, or no end of the last one".into())
+    }
+
+    pub fn item(&mut self, kind: u8, fill: u8, number: usize, bytes: &[u8]) {
         self.input.extend([kind, fill]);
         for x in [number, bytes.len()] {
             self.input.extend(u16::try_from(x).unwrap().to_le_bytes());

@@ -13,10 +13,11 @@ impl Run<'_> {
     pub fn case(&mut self, rng: &mut Rng) -> Outcome<()> {
         match rng.range(0, 99) {
             0..=9 => self.settings_case(rng),
-            10..=49 => self.list_case(rng),
-            50..=79 => self.image_case(rng),
-            80..=94 => self.damaged_case(rng),
-            _ => self.program_case(rng),
+            10..=47 => self.list_case(rng),
+            48..=76 => self.image_case(rng),
+            77..=90 => self.damaged_case(rng),
+            91..=95 => self.program_case(rng),
+            _ => self.three_case(rng),
         }
     }
 

@@ -83,7 +83,7 @@ fn around_events(rng: &mut Rng, s: &Settings, samples: &mut [i16]) {
 /// Puts a clipped sample, or one that is just not clipped, into a half-cycle, if there is such a one.
 /// The other samples then change, so that the sum of squares most often stays; where it is too small
 /// for that it grows, or the half-cycle is left as it is.
-fn put(rng: &mut Rng, s: &Settings, samples: &mut [i16], half: i64) {
+pub fn put(rng: &mut Rng, s: &Settings, samples: &mut [i16], half: i64) {
     let m = s.m as usize;
     let Some(samples) = samples.chunks_exact_mut(m).nth((half - 1).max(0) as usize) else { return };
     let sample = one_of(if rng.chance(75) { &CLIPPED } else { &JUST_NOT_CLIPPED }, rng);
@@ -97,7 +97,7 @@ fn put(rng: &mut Rng, s: &Settings, samples: &mut [i16], half: i64) {
 }
 
 /// A half-cycle with this sample at this place, and this sum of squares, or a little less.
-fn spread(samples: &mut [i16], at: usize, sample: i16, sum: i64) {
+pub fn spread(samples: &mut [i16], at: usize, sample: i16, sum: i64) {
     let m = samples.len();
     let mut left = sum - sample as i64 * sample as i64;
     samples[at] = sample;

@@ -69,10 +69,11 @@ pub fn first_difference(a: &[u8], b: &[u8]) -> String {
     }
 }
 
-/// The implementations, the event program to run if there is one, and what has been seen.
+/// The implementations, the event programs to run if there are any, and what has been seen.
 pub struct Run<'a> {
     pub hosts: &'a [Host],
     pub program: Option<&'a str>,
+    pub program_three: Option<&'a str>,
     pub seen: &'a mut Seen,
 }
 

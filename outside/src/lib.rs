@@ -5,6 +5,8 @@
 //! - the stepper (`stepper`): goes on from any accepted image, one sample at a time, naively;
 //! - the logger (`logger`, `limits`, `room`, `squares`, `image`, `host`): small state, half-cycle by
 //!   half-cycle.
+//!
+//! And the same for three phases (`three`).
 
 pub mod engineer;
 pub mod readings;
@@ -20,6 +22,8 @@ pub mod room;
 pub mod squares;
 
 pub mod program;
+
+pub mod three;
 
 #[cfg(feature = "proved")]
 pub mod ffi;

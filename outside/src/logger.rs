@@ -12,9 +12,9 @@ pub const PLACES: usize = 120;
 
 /// A value, and whether one of its samples is clipped.
 #[derive(Clone, Copy)]
-struct Value {
-    r: u32,
-    clipped: bool,
+pub struct Value {
+    pub r: u32,
+    pub clipped: bool,
 }
 
 impl Value {
@@ -33,7 +33,14 @@ impl Event {
     pub const NONE: Event = Event { start: 0, magnitude: 0, clipped: false };
 
     /// After value i: while it stands it keeps the least r, or the greatest, and the marks.
-    fn with(self, i: u32, x: Value, begins: bool, ends: bool, pick: fn(u32, u32) -> u32) -> Event {
+    pub fn with(
+        self,
+        i: u32,
+        x: Value,
+        begins: bool,
+        ends: bool,
+        pick: fn(u32, u32) -> u32,
+    ) -> Event {
         match self.start {
             0 if begins => Event { start: i, magnitude: x.r, clipped: x.clipped },
             0 => Event::NONE,
@@ -47,7 +54,7 @@ impl Event {
     }
 
     /// The record due at value i, if that ended it.
-    fn record(self, kind: u32, i: u32, after: Event) -> Option<Record> {
+    pub fn record(self, kind: u32, i: u32, after: Event) -> Option<Record> {
         let ended = self.start > 0 && after.start == 0;
         let kind = head(kind, self.clipped);
         ended.then(|| [kind, self.start, i - self.start, self.magnitude, 0])

@@ -18,26 +18,31 @@ pub struct Text {
 
 impl Text {
     /// A line for each record, then V; and what has not ended, which has no record.
-    fn of(records: &[u8], looked: Looked) -> Text {
+    pub fn of(program: &str, records: &[u8], v: u64, phase: u64, stand: [bool; 3]) -> Text {
         let mut printed = String::from("kind start halves first second\n");
         for x in records.chunks_exact(RECORD) {
             let columns = [4, 8, 12, 16].map(|at| four(x, at).to_string()).join(" ");
             printed += &format!("{} {columns}\n", KINDS[x[0] as usize - 1]);
         }
-        printed += &format!("values {}\n", looked.v);
-        let [dip, swell, interruption] = looked.stand;
-        let stand = [dip, swell, interruption, looked.phase == 3];
+        printed += &format!("values {v}\n");
+        let [dip, swell, interruption] = stand;
+        let stand = [dip, swell, interruption, phase == 3];
         let lines = KINDS.iter().zip(stand).filter(|x| x.1);
-        let told = lines.map(|x| format!("event_log: not ended: {}\n", x.0)).collect();
+        let told = lines.map(|x| format!("{program}: not ended: {}\n", x.0)).collect();
         Text { printed, told }
     }
 
-    fn refused(number: u32) -> Text {
+    fn of_one(records: &[u8], looked: Looked) -> Text {
+        Text::of("event_log", records, looked.v, looked.phase, looked.stand)
+    }
+
+    pub fn refused(number: u32) -> Text {
         Text { printed: format!("refused {number}\n"), told: String::new() }
     }
 }
 
-fn split(input: &[u8]) -> (&[u8], &[u8]) {
+/// The settings and what follows them.
+pub fn split(input: &[u8]) -> (&[u8], &[u8]) {
     input.split_at(input.len().min(36))
 }
 
@@ -50,7 +55,7 @@ pub fn by_engineer(input: &[u8]) -> Text {
     let block: Vec<i16> =
         samples.as_chunks::<2>().0.iter().map(|&x| i16::from_le_bytes(x)).collect();
     let (_, records) = engineer.feed(&block, usize::MAX);
-    Text::of(&records, engineer.look())
+    Text::of_one(&records, engineer.look())
 }
 
 pub fn by_logger(input: &[u8]) -> Text {
@@ -67,7 +72,7 @@ pub fn by_logger(input: &[u8]) -> Text {
         records.extend(&room[..RECORD * fed.written as usize]);
         left = &left[fed.taken as usize..];
         if fed.why != 1 {
-            return Text::of(&records, logger.look());
+            return Text::of_one(&records, logger.look());
         }
     }
 }

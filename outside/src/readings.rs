@@ -91,6 +91,20 @@ impl<'a> Readings<'a> {
         (a..=z).any(|j| self.clipped(j))
     }
 
+    /// The steady signal at i; false below N.
+    pub fn steady(&self, i: i64) -> bool {
+        self.signal[i as usize]
+    }
+
+    /// Whether the dip (kind 1), the swell (2) or the interruption (3) stands after each value.
+    pub fn stands(&self, kind: i64) -> &[bool] {
+        match kind {
+            1 => &self.dip,
+            2 => &self.swell,
+            _ => &self.interruption,
+        }
+    }
+
     /// A(i), for i of at least N.
     pub fn a(&self, i: i64) -> i64 {
         (i - self.s.n + 1..=i).map(|j| self.r(j)).sum()
@@ -137,7 +151,7 @@ impl<'a> Readings<'a> {
     }
 
     /// Greatest |N × r(j) − A(k − 1)| for j from k to `to`, 0 if there is none.
-    fn greatest_difference(&self, k: i64, to: i64) -> i64 {
+    pub fn greatest_difference(&self, k: i64, to: i64) -> i64 {
         let before = self.a(k - 1);
         (k..=to).map(|j| (self.s.n * self.r(j) - before).abs()).max().unwrap_or(0)
     }
@@ -171,7 +185,7 @@ impl<'a> Readings<'a> {
     }
 
     /// The least, or for a swell the greatest, r of a to z.
-    fn magnitude(&self, kind: i64, a: i64, z: i64) -> i64 {
+    pub fn magnitude(&self, kind: i64, a: i64, z: i64) -> i64 {
         let r = (a..=z).map(|j| self.r(j));
         if kind == 2 {
             r.max().unwrap()
@@ -400,6 +414,6 @@ fn stands_above(s: &Settings, r: &[i64]) -> Vec<bool> {
 }
 
 /// Whether an event first stands at i.
-fn begins(stands: &[bool], i: i64) -> bool {
+pub fn begins(stands: &[bool], i: i64) -> bool {
     stands[i as usize] && !stands[i as usize - 1]
 }

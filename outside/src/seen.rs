@@ -4,6 +4,7 @@ use crate::marks::Marks;
 use crate::pairs::{pairs, rules};
 use crate::room::RECORD;
 use crate::rules::Q;
+use crate::three;
 use std::collections::BTreeMap;
 
 /// Names of the calls that are counted.
@@ -32,6 +33,8 @@ pub struct Seen {
     pub programs: u64,
     /// Events that had not ended with a recording, by kind, 1 to 4.
     pub not_ended: [u64; 5],
+    /// What recordings of three phases have shown.
+    pub three: three::seen::Seen,
 }
 
 /// The kinds of record.
@@ -93,6 +96,7 @@ impl Seen {
             add(format!("not ended: {name}"), self.not_ended[kind]);
         }
         list.extend(self.marks.counts());
+        list.extend(self.three.counts());
         list
     }
 }

@@ -122,7 +122,7 @@ fn level(rng: &mut Rng, s: &Settings, before: i64) -> i64 {
 }
 
 /// One half-cycle whose neighbour pairs give about, most often exactly, the value r.
-fn half(rng: &mut Rng, m: i64, r: i64, style: i64, out: &mut Vec<i16>) {
+pub fn half(rng: &mut Rng, m: i64, r: i64, style: i64, out: &mut Vec<i16>) {
     let count = (r / 16).min(32_768);
     match style {
         // The least energy that gives r, put together from greedy squares.

@@ -5,6 +5,7 @@ use outside::call_lists::{self, Tally};
 use outside::logger::Logger;
 use outside::program;
 use outside::rules::{self, IMAGE};
+use outside::three;
 use std::fs;
 use std::path::Path;
 
@@ -29,6 +30,25 @@ fn the_lists_of_calls() {
     let mut seen = Tally::default();
     let list = call_lists::files(&mut seen);
     has_lines(&list.text, &["samples ", "parts ", "none"]);
+    for (name, count) in seen.counts() {
+        assert!(count > 0, "{name}");
+    }
+}
+
+#[test]
+fn the_recording_of_three_phases() {
+    let input = three::program::recording();
+    let text = three::program::by_engineer(&input);
+    assert_eq!(three::program::by_logger(&input), text);
+    has_lines(&text.printed, &["dip ", "swell ", "interruption ", "rvc "]);
+    has_lines(&text.told, &["event_log_three: not ended: dip"]);
+}
+
+#[test]
+fn the_lists_of_calls_of_three_phases() {
+    let mut seen = three::lists::Tally::default();
+    let list = three::lists::files(&mut seen);
+    assert_eq!(list.difference(&three::lists::by_logger(&list.input)), None);
     for (name, count) in seen.counts() {
         assert!(count > 0, "{name}");
     }

@@ -5,12 +5,17 @@ use libc::STDIN_FILENO;
 use libc::STDOUT_FILENO;
 use reading::Event;
 use records::RECORD_LENGTH;
+use settings::Settings;
+use settings::SettingsRead;
 use streams::Got;
 ghost use mathlib.Core.Path.{_≡_};
+ghost use mathlib.Core.Bool.{_&&_};
 ghost use Prim.Native.Nat.{_+_, _*_, _≤_};
 ghost use lib.ListN.{length, take};
 ghost use Rattle.io.specs.Counts.{Counts};
+ghost use Rattle.numbers.specs.Notation.{_≡ᵇ_};
 ghost use Rattle.reading.specs.Layout.{recordLength};
+ghost use Rattle.event_lines.specs.Begun.{BegunValid};
 ghost use Rattle.event_lines.specs.Text.{column, kindName, lineOf, linesOf, Put};
 
 // The longest line: a kind of 12 letters, four columns of a space and at most 20 digits, and the line's end.
@@ -34,6 +39,12 @@ pub struct Ending {
     pub interruption: bool,
     pub phase: u8,
     pub why: u32,
+}
+
+// What a program begins with: its settings; or nothing, where they are not read, or refused.
+pub enum Begun {
+    With(Settings),
+    Nothing,
 }
 
 // Puts bytes at a place of a text; tells the place behind them.
@@ -130,6 +141,13 @@ pub fn read(name: &[u8], bytes: &mut [u8]) -> Got
     got
 }
 
+// Whether there may be more behind a chunk: not where something failed, nor behind a short one, nor at V's end.
+pub fn goes_on(good: bool, got: usize, whole: usize, why: u32) -> bool
+    ensures { λ r. ⌜ r ≡ (good && got ≡ᵇ whole && why ≡ᵇ 0) ⌝ }
+{
+    good & (got == whole) & (why == 0)
+}
+
 // Prints, unless something was lost before, and tells whether nothing is; a write that fails is told.
 pub fn print(name: &[u8], printed: bool, text: &[u8]) -> bool
     requires { ⌜ length (now name) ≤ 32 ⌝ }
@@ -161,10 +179,24 @@ fn print_line(name: &[u8], word: &[u8], number: u64) -> bool
     print(name, true, &text[..end])
 }
 
-pub fn refuse(name: &[u8], number: u64)
+// Reads the settings. The number of refused ones is printed, and a read that fails is told.
+pub fn begin(name: &[u8]) -> Begun
     requires { ⌜ length (now name) ≤ 32 ⌝ }
+    ensures { λ r. ⌜ BegunValid r ⌝ }
 {
-    print_line(name, b"refused", number);
+    let mut bytes = [0u8; Settings::LENGTH];
+    let got = read(name, &mut bytes);
+    if got.failed {
+        return Begun::Nothing;
+    }
+    let count = got.count;
+    match Settings::from_bytes(&bytes[..count]) {
+        SettingsRead::Read(settings) => Begun::With(settings),
+        SettingsRead::Refused(number) => {
+            print_line(name, b"refused", number as u64);
+            Begun::Nothing
+        }
+    }
 }
 
 // Tells a line on standard error, where what it says is so.

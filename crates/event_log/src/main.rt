@@ -1,16 +1,14 @@
 // The event program: settings, then samples, from standard input; a line for each record, and the number of values, to standard output. What fails, and what has
 // not ended, goes to standard error.
+use event_lines::Begun;
 use event_lines::Ending;
 use event_lines::LINE;
 use logger::Logger;
 use records::RECORD_LENGTH;
 use settings::Settings;
-use settings::SettingsRead;
 ghost use mathlib.Core.Path.{_≡_};
-ghost use mathlib.Core.Bool.{_&&_};
 ghost use Prim.Native.Nat.{_≤_};
 ghost use lib.ListN.{length};
-ghost use Rattle.numbers.specs.Notation.{_≡ᵇ_};
 ghost use Rattle.settings.specs.Settings.{ValidSettings};
 ghost use Rattle.samples.specs.Samples.{samplesOf};
 ghost use Rattle.state.specs.State.{ValidState};
@@ -96,13 +94,6 @@ fn finish(logger: Logger, why: u32)
     );
 }
 
-// Whether there may be more: not where something failed, nor behind a short chunk, nor at V's end.
-fn goes_on(good: bool, got: usize, why: u32) -> bool
-    ensures { λ r. ⌜ r ≡ (good && got ≡ᵇ 2048 && why ≡ᵇ 0) ⌝ }
-{
-    good & (got == CHUNK_BYTES) & (why == 0)
-}
-
 // Feeds a fresh logger to the end of the input or of V, and prints. Where something fails it prints no more: a text without its last line is not whole.
 fn log(settings: Settings)
     requires { ⌜ ValidSettings settings ⌝ }
@@ -120,7 +111,7 @@ fn log(settings: Settings)
         logger = fed.logger;
         why = fed.why;
         good = turn.printed & !got.failed;
-        more = goes_on(good, count, why);
+        more = event_lines::goes_on(good, count, CHUNK_BYTES, why);
     }
     if good {
         finish(logger, why);
@@ -128,14 +119,8 @@ fn log(settings: Settings)
 }
 
 fn main() {
-    let mut bytes = [0u8; Settings::LENGTH];
-    let got = event_lines::read(&NAME, &mut bytes);
-    if got.failed {
-        return;
-    }
-    let count = got.count;
-    match Settings::from_bytes(&bytes[..count]) {
-        SettingsRead::Read(settings) => log(settings),
-        SettingsRead::Refused(number) => event_lines::refuse(&NAME, number as u64),
+    let begun = event_lines::begin(&NAME);
+    if let Begun::With(settings) = begun {
+        log(settings);
     }
 }

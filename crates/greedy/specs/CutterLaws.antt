@@ -191,3 +191,12 @@ module _ {X St : Type 0} (C : Cutter X St) (st : St) (x : X) where
       go : (b : Bool) → (if b then C .passes st (x ∷ []) else false) ≡ false
       go true = within
       go false = refl
+
+  -- what the end of a half-cycle and a part of one leave, a sample that passes no end leaves
+  pub sample-leaves : (Left : St → Type 0) → (endsHalf C st x ≡ false → Left (C .part st (x ∷ []))) → (C .passes st (x ∷ []) ≡ false → Left (C .half st (x ∷ [])))
+      → machineOf C .atEnd st x ≡ false → Left (machineOf C .next st x)
+  sample-leaves Left part half = go (endsHalf C st x) refl
+    where
+      go : (b : Bool) → endsHalf C st x ≡ b → (if b then C .passes st (x ∷ []) else false) ≡ false → Left (if b then C .half st (x ∷ []) else C .part st (x ∷ []))
+      go true e within = half within
+      go false e within = part e

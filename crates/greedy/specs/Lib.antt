@@ -6,3 +6,5 @@ pub mod Cutter
 pub mod CutterLaws
 pub mod ProgressLaws
 pub mod ToldLaws
+pub mod AllFed
+pub mod AllFedLaws

@@ -1,7 +1,8 @@
--- 02's sentence on marks: an event is marked exactly when a value from its start to the last one in its first magnitude is clipped.
+-- Marks of values by any test: one from a to l is 1 exactly where a value there passes. So 02's sentence: an event is marked exactly when a value from its start to
+-- the last one in its first magnitude is clipped.
 use mathlib.Core.Path.{_≡_, refl, sym, _∙_, ap}
 use mathlib.Core.Bool.{Bool, true, false}
-use mathlib.Core.List.{List, _∷_}
+use mathlib.Core.List.{List, [], _∷_}
 use Prim.Native.Nat.{ℕ, zero, suc, _+_, _-_, _≤_, _<_}
 use native.Mathlib.Omega.{arith}
 use native.Mathlib.Decide.{decLe}
@@ -12,7 +13,6 @@ use Rattle.numbers.specs.Notation.{flag}
 use Rattle.reading.specs.Values.{since, upTo}
 use Rattle.reading.specs.Clipping.{valueClipped, marks, anyMarked}
 use Rattle.reading_laws.specs.Sentences.{ClippedFrom}
-use Rattle.reading_laws.specs.RecordingsLaws.{length-marks}
 
 never : {A : Type 0} → false ≡ true → A
 never e = let z : _≡_ {A = ℕ} 0 1 = ap flag e in absurd (omega arith)
@@ -25,51 +25,83 @@ marked-later : (b : Bool) (ms : List ℕ) → anyMarked ms ≡ true → anyMarke
 marked-later true ms e = refl
 marked-later false ms e = e
 
-module _ (s : Settings) (rec : List ℤ) where
+-- the marks of values by any test, i back to 1; and one of the values from a to l passes it
+abbrev pub marksBy : (ℕ → Bool) → ℕ → List ℕ
+marksBy test zero = []
+marksBy test (suc i) = flag (test (suc i)) ∷ marksBy test i
+
+pub record Passes (test : ℕ → Bool) (a l : ℕ) : Type 0 where
+  pub which : ℕ
+  pub from : a ≤ which
+  pub to : which ≤ l
+  pub passes : test which ≡ true
+
+module _ (test : ℕ → Bool) where
+  length-marksBy : (i : ℕ) → length (marksBy test i) ≡ i
+  length-marksBy zero = refl
+  length-marksBy (suc i) = ap suc (length-marksBy i)
+
   -- the marks up to an earlier value
-  drop-marks : (d i : ℕ) → drop d (marks s rec i) ≡ marks s rec (i - d)
-  drop-marks zero i = let e : i ≡ i - 0 = omega arith in ap (marks s rec) e
-  drop-marks (suc d) zero = let e : 0 ≡ 0 - suc d = omega arith in ap (marks s rec) e
-  drop-marks (suc d) (suc i) = let e : i - d ≡ suc i - suc d = omega arith in drop-marks d i ∙ ap (marks s rec) e
+  drop-marks : (d i : ℕ) → drop d (marksBy test i) ≡ marksBy test (i - d)
+  drop-marks zero i = let e : i ≡ i - 0 = omega arith in ap (marksBy test) e
+  drop-marks (suc d) zero = let e : 0 ≡ 0 - suc d = omega arith in ap (marksBy test) e
+  drop-marks (suc d) (suc i) = let e : i - d ≡ suc i - suc d = omega arith in drop-marks d i ∙ ap (marksBy test) e
 
-  span-is : (a l i : ℕ) → l ≤ i → since a (upTo l (marks s rec i)) ≡ take (suc l - a) (marks s rec l)
+  span-is : (a l i : ℕ) → l ≤ i → since a (upTo l (marksBy test i)) ≡ take (suc l - a) (marksBy test l)
   span-is a l i h =
-      let n = length (marks s rec i) in
-      let e : i - (n - l) ≡ l = omega (arith, length-marks s rec i) in
-      ap (since a) (drop-marks (n - l) i ∙ ap (marks s rec) e) ∙ ap (λ (k : ℕ). take (suc k - a) (marks s rec l)) (length-marks s rec l)
+      let n = length (marksBy test i) in
+      let e : i - (n - l) ≡ l = omega (arith, length-marksBy i) in
+      ap (since a) (drop-marks (n - l) i ∙ ap (marksBy test) e) ∙ ap (λ (k : ℕ). take (suc k - a) (marksBy test l)) (length-marksBy l)
 
-  -- one of the newest n of l values is clipped
+  -- one of the newest n of l values passes
   abbrev Newest : ℕ → ℕ → Type 0
-  Newest n l = (j : ℕ) × (l < j + n) × (j ≤ l) × (valueClipped s rec j ≡ true)
+  Newest n l = (j : ℕ) × (l < j + n) × (j ≤ l) × (test j ≡ true)
 
   -- it is where one of their marks is 1
-  found : (n l : ℕ) → anyMarked (take n (marks s rec l)) ≡ true → Newest n l
+  found : (n l : ℕ) → anyMarked (take n (marksBy test l)) ≡ true → Newest n l
   found zero l h = never h
   found (suc n) zero h = never h
-  found (suc n) (suc l) h = go (valueClipped s rec (suc l)) refl (found n l) h
+  found (suc n) (suc l) h = go (test (suc l)) refl (found n l) h
     where
-      go : (b : Bool) → valueClipped s rec (suc l) ≡ b → (anyMarked (take n (marks s rec l)) ≡ true → Newest n l)
-          → anyMarked (flag b ∷ take n (marks s rec l)) ≡ true → Newest (suc n) (suc l)
+      go : (b : Bool) → test (suc l) ≡ b → (anyMarked (take n (marksBy test l)) ≡ true → Newest n l)
+          → anyMarked (flag b ∷ take n (marksBy test l)) ≡ true → Newest (suc n) (suc l)
       go true e was m = (suc l, omega arith, omega arith, e)
       go false e was m = let older = was m in (older .0, omega (arith, older .1), omega (arith, older .2), older .3)
 
   -- and one of their marks is 1 where it is
-  shown : (n l j : ℕ) → 1 ≤ j → l < j + n → j ≤ l → valueClipped s rec j ≡ true → anyMarked (take n (marks s rec l)) ≡ true
+  shown : (n l j : ℕ) → 1 ≤ j → l < j + n → j ≤ l → test j ≡ true → anyMarked (take n (marksBy test l)) ≡ true
   shown zero l j some low high c = absurd (omega arith)
   shown (suc n) zero j some low high c = absurd (omega arith)
   shown (suc n) (suc l) j some low high c = go (decLe j l) (λ h. shown n l j some (omega arith) h c)
     where
-      go : Dec (j ≤ l) → (j ≤ l → anyMarked (take n (marks s rec l)) ≡ true) → anyMarked (take (suc n) (marks s rec (suc l))) ≡ true
-      go (yes h) older = marked-later (valueClipped s rec (suc l)) (take n (marks s rec l)) (older h)
+      go : Dec (j ≤ l) → (j ≤ l → anyMarked (take n (marksBy test l)) ≡ true) → anyMarked (take (suc n) (marksBy test (suc l))) ≡ true
+      go (yes h) older = marked-later (test (suc l)) (take n (marksBy test l)) (older h)
       go (no f) older =
           let e : suc l ≡ j = omega (arith, f) in
-          marked-first (valueClipped s rec (suc l)) (take n (marks s rec l)) (ap (valueClipped s rec) e ∙ c)
+          marked-first (test (suc l)) (take n (marksBy test l)) (ap test e ∙ c)
+
+  -- a mark from a to l is 1 exactly where a value there passes
+  pub marked-passes : (i a l : ℕ) → l ≤ i → anyMarked (since a (upTo l (marksBy test i))) ≡ true → Passes test a l
+  marked-passes i a l h m =
+      let there = found (suc l - a) l (sym (ap anyMarked (span-is a l i h)) ∙ m) in
+      record { which = there .0; from = omega (arith, there .1, there .2); to = there .2; passes = there .3 }
+
+  pub passes-marked : (i a l : ℕ) → 1 ≤ a → l ≤ i → Passes test a l → anyMarked (since a (upTo l (marksBy test i))) ≡ true
+  passes-marked i a l some h there =
+      ap anyMarked (span-is a l i h) ∙ shown (suc l - a) l (there .which) (omega (arith, there .from)) (omega (arith, there .from, there .to)) (there .to) (there .passes)
+
+-- the marks of a recording
+module _ (s : Settings) (rec : List ℤ) where
+  marks-by : (i : ℕ) → marks s rec i ≡ marksBy (valueClipped s rec) i
+  marks-by zero = refl
+  marks-by (suc i) = ap (λ (ms : List ℕ). flag (valueClipped s rec (suc i)) ∷ ms) (marks-by i)
 
   pub marked-clipped : (i a l : ℕ) → l ≤ i → anyMarked (since a (upTo l (marks s rec i))) ≡ true → ClippedFrom s rec a l
   marked-clipped i a l h m =
-      let there = found (suc l - a) l (sym (ap anyMarked (span-is a l i h)) ∙ m) in
-      record { at = there .0; from = omega (arith, there .1, there .2); to = there .2; clipped = there .3 }
+      let there = marked-passes (valueClipped s rec) i a l h (sym (ap (λ (ms : List ℕ). anyMarked (since a (upTo l ms))) (marks-by i)) ∙ m) in
+      record { at = there .which; from = there .from; to = there .to; clipped = there .passes }
 
   pub clipped-marked : (i a l : ℕ) → 1 ≤ a → l ≤ i → ClippedFrom s rec a l → anyMarked (since a (upTo l (marks s rec i))) ≡ true
   clipped-marked i a l some h there =
-      ap anyMarked (span-is a l i h) ∙ shown (suc l - a) l (there .at) (omega (arith, there .from)) (omega (arith, there .from, there .to)) (there .to) (there .clipped)
+      ap (λ (ms : List ℕ). anyMarked (since a (upTo l ms))) (marks-by i)
+      ∙ passes-marked (valueClipped s rec) i a l some h (record { which = there .at; from = there .from; to = there .to; passes = there .clipped })

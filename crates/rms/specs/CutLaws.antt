@@ -58,6 +58,11 @@ module _ (m : ℕ) (g : Gatherer) (h : g .count < m) where
       go false true false p q r = let e : m - g .count ≡ suc (m - next g x .count) = omega (arith, ltb-true) in λ i. record { count = e i; completes = true }
       go false false c p q r = let e : m - g .count ≡ 1 = omega (arith, ltb-false) in λ i. record { count = e i; completes = true }
 
+-- it goes by the number of samples alone
+pub cut-length : (m : ℕ) (g : Gatherer) (xs ys : List ℤ) → length xs ≡ length ys → cut m g xs ≡ cut m g ys
+unfolding cut share
+cut-length m g xs ys e = λ i. share (e i <ᵇ m - g .count) (e i) (m - g .count)
+
 -- what a walk needs: the cut gives samples that are there, one at least where it ends the half-cycle and all where it does not, and no more than fit
 pub record Within (m : ℕ) (g : Gatherer) (xs : List ℤ) (c : Share) : Type 0 where
   pub inside : c .count ≤ length xs

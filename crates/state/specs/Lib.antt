@@ -5,3 +5,4 @@ pub mod StepFollows
 pub mod StepValid
 pub mod Calls
 pub mod CallsLaws
+pub mod Starts

@@ -16,28 +16,13 @@ const USAGE: &str = "call_lists LISTS SEED --program PATH [--require-all]
 call_lists --list SEED NUMBER --program PATH
 call_lists --files FOLDER";
 
-/// What differs first between the text that was printed and the list's.
-fn difference(list: &List, printed: &str) -> Option<String> {
-    if printed == list.text {
-        return None;
-    }
-    let mut lines = printed.lines();
-    for (j, line) in list.text.lines().enumerate() {
-        let other = lines.next().unwrap_or("the end");
-        if line != other {
-            return Some(format!("line {}: {other}\nnot {line}", j + 1));
-        }
-    }
-    Some("more lines, or no end of the last one".into())
-}
-
 /// Runs one list; on a difference tells it and ends with 1.
 fn run(seed: u64, number: u64, program: &str, seen: &mut Tally) {
     let mut rng = Rng::of_case(seed, number);
     let list = list(&mut rng, seen);
     let pieces = pieces(&mut rng, list.input.len());
     let text = match written(program, &list.input, &pieces) {
-        Ok(text) => difference(&list, &text.printed),
+        Ok(text) => list.difference(&text.printed),
         Err(text) => Some(text),
     };
     if let Some(text) = text {

@@ -1,7 +1,7 @@
 //! Compares the implementations on random cases, always the same ones under a seed.
 //!
-//! compare CASES SEED [--require-all] [--trace] [--program PATH]
-//! compare --case SEED NUMBER [--program PATH]
+//! compare CASES SEED [--require-all] [--trace] [--program PATH] [--program-three PATH]
+//! compare --case SEED NUMBER [--program PATH] [--program-three PATH]
 
 use outside::arguments::Arguments;
 use outside::hosts::{hosts, Host, Run};
@@ -10,13 +10,23 @@ use outside::seen::{tell, Seen};
 use std::panic::{catch_unwind, AssertUnwindSafe};
 use std::process::exit;
 
-const USAGE: &str = "compare CASES SEED [--require-all] [--trace] [--program PATH]
-compare --case SEED NUMBER [--program PATH]";
+const USAGE: &str =
+    "compare CASES SEED [--require-all] [--trace] [--program PATH] [--program-three PATH]
+compare --case SEED NUMBER [--program PATH] [--program-three PATH]";
+
+/// What the cases are run on.
+struct On<'a> {
+    hosts: &'a [Host],
+    program: Option<&'a str>,
+    program_three: Option<&'a str>,
+}
 
 /// Runs one case; on a difference tells it and ends with 1.
-fn run(seed: u64, case: u64, hosts: &[Host], program: Option<&str>, seen: &mut Seen) {
+fn run(seed: u64, case: u64, on: &On, seen: &mut Seen) {
     let mut rng = Rng::of_case(seed, case);
-    let outcome = catch_unwind(AssertUnwindSafe(|| Run { hosts, program, seen }.case(&mut rng)));
+    let &On { hosts, program, program_three } = on;
+    let mut run = Run { hosts, program, program_three, seen };
+    let outcome = catch_unwind(AssertUnwindSafe(|| run.case(&mut rng)));
     let text = match outcome {
         Ok(Ok(())) => return,
         Ok(Err(text)) => text,
@@ -24,7 +34,8 @@ fn run(seed: u64, case: u64, hosts: &[Host], program: Option<&str>, seen: &mut S
     };
     println!("different: {text}");
     let program = program.map_or(String::new(), |x| format!(" --program {x}"));
-    println!("replay: compare --case {seed} {case}{program}");
+    let three = program_three.map_or(String::new(), |x| format!(" --program-three {x}"));
+    println!("replay: compare --case {seed} {case}{program}{three}");
     exit(1)
 }
 
@@ -33,16 +44,19 @@ fn main() {
     let require_all = args.flag("--require-all", 0).is_some();
     let trace = args.flag("--trace", 0).is_some();
     let one_case = args.flag("--case", 2);
-    let program = args.flag("--program", 1).map(|x| x[0].clone());
-    let program = program.as_deref();
+    let mut path = |name: &str| args.flag(name, 1).map(|x| x[0].clone());
+    let (program, program_three) = (path("--program"), path("--program-three"));
+    let (program, program_three) = (program.as_deref(), program_three.as_deref());
     let hosts = hosts();
-    let names: Vec<&str> = hosts.iter().map(|x| x.name).chain(program).collect();
+    let on = On { hosts: &hosts, program, program_three };
+    let names = hosts.iter().map(|x| x.name).chain(program).chain(program_three);
+    let names: Vec<&str> = names.collect();
     println!("comparing engineer, {}", names.join(", "));
     let mut seen = Seen::default();
 
     if let Some(words) = one_case {
         args.numbers(0);
-        run(args.number(&words[0]), args.number(&words[1]), &hosts, program, &mut seen);
+        run(args.number(&words[0]), args.number(&words[1]), &on, &mut seen);
         println!("1 cases, 0 different");
         return;
     }
@@ -53,12 +67,15 @@ fn main() {
         if trace {
             eprintln!("case {case}");
         }
-        run(seed, case, &hosts, program, &mut seen);
+        run(seed, case, &on, &mut seen);
     }
 
     let mut counts = seen.counts();
     if program.is_some() {
         counts.push(("programs run".into(), seen.programs));
+    }
+    if program_three.is_some() {
+        counts.push(("three: programs run".into(), seen.three.programs));
     }
     let all_seen = tell(&counts);
     if require_all && !all_seen {

@@ -6,10 +6,11 @@ use native.Mathlib.Omega.{arith}
 use lib.ListN.{length}
 use lib.Seq.{length-take-le}
 use borrow.Author.Needs.{needs}
-use borrow.Author.Tests.{ne-eqb}
+use Rattle.greedy.specs.AllFed.{fedAllBy}
+use Rattle.greedy.specs.AllFedLaws.{toFeed, restBy, rest-none}
 use Rattle.state.specs.State.{ValidState}
-use Rattle.event_log.specs.FedAll.{fedAllFrom}
-use Rattle.event_log.specs.FedAllLaws.{rest, toFeed, turn-fits, turn-inside, turn-rest, turn-less}
+use Rattle.state.specs.Step.{machine}
+use Rattle.event_log.specs.FedAllLaws.{fed-turn}
 use Rattle.event_log.proofs.feed_all.Statement.{statement}
 use Rattle.event_log.proofs.feed_all.Tie as tie
 
@@ -19,7 +20,7 @@ Inv-loop samples records₀ text₀ held₀ at₀ why₀ printed₀ name records
     × (at ≤ length samples)
     × (length records ≡ length records₀)
     × (length text ≡ length text₀)
-    × (fedAllFrom held₀ samples ≡ rest samples held at why)
+    × (fedAllBy machine (held₀ .state) samples ≡ restBy machine samples (held .state) at why)
     × (length name ≡ 11)
 
 abbrev μ-loop : tie.MeasureT-loop
@@ -56,7 +57,7 @@ put-lines-requires : tie.Need-put-lines-requires Inv-loop μ-loop
 put-lines-requires c κs =
     let call = c .before .before .before .before in
     let loop = call .before .before .before .before .loop in
-    let fits = turn-fits (call .before .before .before .before .before .args .samples .now) (loop .at) _ _ (call .feed .ensures .0) in
+    let fits = fed-turn (call .before .before .before .before .before .args .samples .now) (loop .at) _ _ (call .feed .ensures .0) .fits in
     (omega arith, omega (arith, loop .inv .2, loop .inv .3))
 
 slice-aggregate-print : tie.Need-slice-aggregate-print Inv-loop μ-loop
@@ -76,7 +77,7 @@ add-at c =
     let call = c .before .before .before .before .before .before .before .before .before .before .before in
     let loop = call .before .before .before .before .loop in
     let start = call .before .before .before .before .before in
-    omega (arith, turn-inside (start .args .samples .now) (loop .at) _ _ (call .feed .ensures .0) (loop .inv .1), start .good)
+    omega (arith, fed-turn (start .args .samples .now) (loop .at) _ _ (call .feed .ensures .0) .inside (loop .inv .1), start .good)
 
 loop-less : tie.Need-loop-less Inv-loop μ-loop
 loop-less c =
@@ -85,25 +86,29 @@ loop-less c =
     let samples = call .before .before .before .before .before .args .samples .now in
     let told = call .feed .result .told in
     subst⁻¹ (λ (why : ℕ). toFeed samples (loop .at + told .taken) (told .why) < toFeed samples (loop .at) why) (call .before .before .before .loop-test .taken)
-    (turn-less samples (loop .at) _ _ (call .feed .ensures .0) (loop .inv .1) (omega (arith, loop .inv .2)))
+    (fed-turn samples (loop .at) _ _ (call .feed .ensures .0) .less (loop .inv .1) (omega (arith, loop .inv .2)))
 
 loop-again : tie.Need-loop-again Inv-loop μ-loop
 loop-again c =
     let call = c .before .before .before .before .before .before .before .before .before .before .before in
     let loop = call .before .before .before .before .loop in
-    let samples = call .before .before .before .before .before .args .samples .now in (
+    let samples = call .before .before .before .before .before .args .samples .now in
+    let turn = fed-turn samples (loop .at) _ _ (call .feed .ensures .0) in (
       call .feed .ensures .1,
-      turn-inside samples (loop .at) _ _ (call .feed .ensures .0) (loop .inv .1),
+      turn .inside (loop .inv .1),
       search needs,
       omega (arith, c .before .before .before .before .before .before .put-lines .kept, loop .inv .3),
       loop .inv .4
-          ∙ ap (rest samples (loop .held) (loop .at)) (call .before .before .before .loop-test .taken)
-          ∙ turn-rest samples (loop .at) _ _ (call .feed .ensures .0),
+          ∙ ap (restBy machine samples (loop .held .state) (loop .at)) (call .before .before .before .loop-test .taken)
+          ∙ turn .rest,
       search needs,
     )
 
 returns : tie.Need-returns Inv-loop μ-loop
-returns c = (sym (c .before .loop .inv .4 ∙ rw (ne-eqb (c .before .loop .why) 1 (c .loop-test .left))), search needs)
+returns c =
+    let loop = c .before .loop in
+    let all = loop .inv .4 ∙ rest-none machine _ (loop .held .state) (loop .at) (loop .why) (c .loop-test .left) in
+    (sym (λ i. record { logger = record { state = all i .after }; why = all i .why }), search needs)
 
 pub feed-all-spec : {M : Type 1} → statement M
 feed-all-spec =

@@ -5,8 +5,9 @@ use mathlib.Core.Bool.{Bool, _&&_, not}
 use Prim.Native.Nat.{_<_}
 use lib.ListN.{length}
 use borrow.Author.Needs.{needs}
+use Rattle.greedy.specs.AllFedLaws.{leftWhile}
 use Rattle.state.specs.State.{ValidState}
-use Rattle.event_log.specs.FedAllLaws.{leftWhile, chunk-falls}
+use Rattle.event_log.specs.FedAllLaws.{left, bytes-fall}
 use Rattle.event_log.proofs.log.Statement.{statement}
 use Rattle.event_log.proofs.log.Tie as tie
 
@@ -14,7 +15,7 @@ abbrev Inv-loop : tie.InvT-loop
 Inv-loop good₀ logger₀ bytes₀ why₀ more₀ name good logger bytes why more = ValidState (logger .state) × (length bytes ≡ 2048) × (length name ≡ 11)
 
 abbrev μ-loop : tie.MeasureT-loop
-μ-loop good₀ logger₀ bytes₀ why₀ more₀ name good logger bytes why more = leftWhile more (logger .state)
+μ-loop good₀ logger₀ bytes₀ why₀ more₀ name good logger bytes why more = leftWhile left more (logger .state)
 
 slice-aggregate-print-heading : tie.Need-slice-aggregate-print-heading Inv-loop μ-loop
 slice-aggregate-print-heading c = search needs
@@ -55,8 +56,8 @@ loop-less c =
     let read = call .before .before .before .read in
     let test = call .before .before .before .before .before .before in
     let loop = test .before .loop in
-    subst⁻¹ (λ (more : Bool). leftWhile (c .goes-on .result) (call .feed-chunk .result .fed .logger .state) < leftWhile more (loop .logger .state)) (test .loop-test .taken)
-    (chunk-falls _ _ (call .feed-chunk .result .printed && not (read .result .failed)) _ _ _ (loop .inv .0) (sym (read .ensures .1)) (call .feed-chunk .ensures .0) (c .goes-on .ensures))
+    subst⁻¹ (λ (more : Bool). leftWhile left (c .goes-on .result) (call .feed-chunk .result .fed .logger .state) < leftWhile left more (loop .logger .state)) (test .loop-test .taken)
+    (bytes-fall _ _ (call .feed-chunk .result .printed && not (read .result .failed)) _ _ _ (loop .inv .0) (sym (read .ensures .1)) (call .feed-chunk .ensures .0) (c .goes-on .ensures))
 
 loop-again : tie.Need-loop-again Inv-loop μ-loop
 loop-again c = search needs

@@ -1,0 +1,4 @@
+pub mod Joint
+pub mod JointLaws
+pub mod JointFollows
+pub mod JointValid

@@ -1,0 +1,2 @@
+pub mod ThreeClaim
+pub mod ThreeClaimProof

@@ -1,0 +1,4 @@
+pub mod Laying
+pub mod EachPart
+pub mod HalfEnds
+pub mod Walking

@@ -1,0 +1,12 @@
+pub mod ThreeSentences
+pub mod ChannelLaws
+pub mod TriplesLaws
+pub mod RecordingsLaws
+pub mod ThreePast
+pub mod SignalsLaws
+pub mod JointPhaseLaws
+pub mod JointMarksLaws
+pub mod EventsLaws
+pub mod EqualLaws
+pub mod OrderLaws
+pub mod ThreeSentencesProof

@@ -1,0 +1,3 @@
+pub mod Logger
+pub mod Calls
+pub mod FeedLaws

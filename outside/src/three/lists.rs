@@ -1,0 +1,304 @@
+//! Lists of calls as the program `call_lists_three` reads them, and the text that it must print: read
+//! from the three whole recordings by the engineer, and once more by the logger.
+//!
+//! The input is items, one behind the other: 6 bytes (the kind; what every byte of the lent buffer is
+//! before the call; a number, 2 bytes; how many bytes follow, 2 bytes; low byte first), then these
+//! bytes. A list is a start and its calls; a refused start has none.
+
+use super::engineer::Engineer;
+use super::logger::Logger;
+use super::seen::Marks;
+use super::{waves, Looked};
+use crate::call_lists::{buffer, List};
+use crate::engineer::Fed;
+use crate::rng::{one_of, Rng};
+use crate::room::RECORD;
+use crate::rules::{settings_bytes, Settings};
+use crate::seen::KINDS;
+
+/// The most samples that follow an item, in whole triples.
+const MOST_SAMPLES: usize = 32_766;
+/// The lists that the gate runs the program on in one go, by their numbers under a seed: together
+/// they have everything that is counted.
+const FILES_SEED: u64 = 1;
+const FILES_LISTS: [u64; 10] = [398, 494, 751, 1027, 1229, 2700, 2719, 3008, 3752, 3813];
+
+/// The kinds of item, in the program's numbers.
+const START: u8 = 0;
+const FEED: u8 = 1;
+const LOOK: u8 = 2;
+
+/// What has been seen.
+#[derive(Default)]
+pub struct Tally {
+    /// Items: start, feed, look, and those of another kind.
+    items: [u64; 4],
+    /// Refusals, 1 to 6 and 14.
+    refusals: [u64; 15],
+    whys: [u64; 2],
+    /// Records, by kind, 1 to 4, without and with the mark; and what the marks of all have shown.
+    records: [[u64; 2]; 5],
+    marks: Marks,
+    /// Phases, and dips, swells and interruptions that stand, in what look tells.
+    phases: [u64; 4],
+    stand: [u64; 3],
+    /// Feeds that take a part of their block, and none of it; that leave a half-cycle in progress;
+    /// that have an odd last byte; and refused ones with room, and without.
+    part: u64,
+    nothing: u64,
+    in_progress: u64,
+    odd: u64,
+    refused: [u64; 2],
+}
+
+impl Tally {
+    /// Every count under its name.
+    pub fn counts(&self) -> Vec<(String, u64)> {
+        let mut list = vec![("calls".to_string(), self.items.iter().sum())];
+        let mut add = |name: String, count: u64| list.push((name, count));
+        for (name, count) in ["start", "feed", "look", "another kind"].iter().zip(self.items) {
+            add(format!("  {name}"), count);
+        }
+        for number in [1, 2, 3, 4, 5, 6, 14] {
+            add(format!("refused {number}"), self.refusals[number]);
+        }
+        for (why, count) in self.whys.into_iter().enumerate() {
+            add(format!("why {why}"), count);
+        }
+        for (kind, name) in KINDS {
+            add(format!("record {name}, mark 0"), self.records[kind][0]);
+            add(format!("record {name}, mark 1"), self.records[kind][1]);
+        }
+        for (phase, count) in self.phases.into_iter().enumerate() {
+            add(format!("look in phase {phase}"), count);
+        }
+        for ((_, name), count) in KINDS.iter().zip(self.stand) {
+            add(format!("look, {name} stands"), count);
+        }
+        add("feed of a part of the block".into(), self.part);
+        add("feed of nothing of the block".into(), self.nothing);
+        add("feed that leaves a half-cycle in progress".into(), self.in_progress);
+        add("feed with an odd last byte".into(), self.odd);
+        add("feed refused, no room".into(), self.refused[0]);
+        add("feed refused, room".into(), self.refused[1]);
+        list.extend(self.marks.counts());
+        list
+    }
+}
+
+/// The line of a feed: what it tells, or its refusal, and the buffer of this length as it leaves it.
+fn feed_line(answer: &Result<(Fed, Vec<u8>), u32>, length: usize, fill: u8) -> String {
+    match answer {
+        Ok((fed, records)) => {
+            let told = format!("feed {} {} {}", fed.taken, fed.written, fed.why);
+            format!("{told} {}\n", buffer(length, fill, records))
+        }
+        Err(number) => format!("refused {number} {}\n", buffer(length, fill, &[])),
+    }
+}
+
+/// The line of a look.
+fn look_line(looked: &Looked) -> String {
+    let channels = looked.channels.map(|x| format!("{} {} {}", x.v, x.r, x.a)).join(" ");
+    let [dip, swell, interruption] = looked.stand.map(|x| x as u8);
+    format!("look {channels} {} {dip} {swell} {interruption}\n", looked.phase)
+}
+
+/// A list that is being made.
+struct Making<'a> {
+    rng: &'a mut Rng,
+    s: Settings,
+    engineer: Engineer,
+    list: List,
+    seen: &'a mut Tally,
+}
+
+impl Making<'_> {
+    /// Feeds the first samples of `source`; gives how many were taken.
+    fn feed(&mut self, samples: &[i16], room: usize) -> usize {
+        let fill = self.rng.next() as u8;
+        let mut bytes = crate::waves::bytes(samples);
+        // A last odd byte is no sample.
+        let odd = self.rng.chance(10);
+        bytes.extend(odd.then_some(fill));
+        self.list.item(FEED, fill, room, &bytes);
+        let answer = self.engineer.feed(samples, room);
+        self.list.text += &feed_line(&answer, room, fill);
+        let seen = &mut self.seen;
+        seen.items[FEED as usize] += 1;
+        seen.odd += odd as u64;
+        match answer {
+            Ok((fed, records)) => {
+                let taken = fed.taken as usize;
+                let triples = self.engineer.triples() as i64;
+                seen.whys[fed.why as usize] += 1;
+                seen.part += (0 < taken && taken < samples.len()) as u64;
+                seen.nothing += (taken == 0 && !samples.is_empty()) as u64;
+                seen.in_progress += (taken > 0 && triples % self.s.m != 0) as u64;
+                for x in records.chunks(RECORD) {
+                    seen.records[x[0] as usize][x[1] as usize] += 1;
+                }
+                taken
+            }
+            Err(number) => {
+                seen.refusals[number as usize] += 1;
+                seen.refused[(room > 0) as usize] += 1;
+                0
+            }
+        }
+    }
+
+    fn look(&mut self) {
+        self.list.item(LOOK, self.rng.next() as u8, 0, &[]);
+        let looked = self.engineer.look();
+        self.list.text += &look_line(&looked);
+        self.seen.items[LOOK as usize] += 1;
+        self.seen.phases[looked.phase as usize] += 1;
+        (0..3).filter(|&e| looked.stand[e]).for_each(|e| self.seen.stand[e] += 1);
+    }
+
+    /// An item that the program skips, as a call.
+    fn skipped(&mut self) {
+        let bytes = vec![7; self.rng.range(0, 9) as usize];
+        self.list.item(self.rng.range(3, 255) as u8, 0, 7, &bytes);
+        self.seen.items[3] += 1;
+    }
+
+    /// How many of so many samples a feed is given, when it is to share them with `left` calls.
+    fn length(&mut self, most: i64, left: i64) -> usize {
+        let m = 3 * self.s.m;
+        let length = match self.rng.range(0, 9) {
+            0 => self.rng.range(0, 4),
+            1 => self.rng.range(0, m + 3),
+            2 => one_of(&[m - 3, m, m + 3, 2 * m, m - 1, m + 1], self.rng),
+            3 => m * self.rng.range(1, 30),
+            4 => 3 * self.rng.range(0, 10),
+            5..=6 => most,
+            _ => (2 * most / left + self.rng.range(0, m)) / 3 * 3,
+        };
+        length.min(most).min(MOST_SAMPLES as i64) as usize
+    }
+
+    fn room(&mut self) -> usize {
+        let room = match self.rng.range(0, 9) {
+            0..=1 => 0,
+            2 => self.rng.range(0, 100),
+            3 => one_of(&[19, 20, 39, 40, 59, 60, 61], self.rng),
+            4..=6 => 20 * self.rng.range(0, 3),
+            _ => 400,
+        };
+        room as usize
+    }
+
+    fn calls(&mut self, calls: i64) {
+        let s = self.s;
+        let halves = match s.m {
+            ..=16 => {
+                one_of(&[self.rng.range(1, 100), self.rng.range(2 * s.n + 1, 4 * s.n)], self.rng)
+            }
+            17..=40 => self.rng.range(1, 2 * s.n),
+            _ => self.rng.range(1, 60),
+        };
+        let source = waves::recording(self.rng, &s, halves);
+        let mut left = &source[..];
+        for j in 0..calls {
+            match self.rng.range(0, 99) {
+                0..=19 => self.look(),
+                20..=21 => self.skipped(),
+                _ => {
+                    let length = self.length(left.len() as i64, calls - j);
+                    let room = self.room();
+                    let taken = self.feed(&left[..length], room);
+                    left = &left[taken..];
+                }
+            }
+        }
+        // What is left, and what the list leaves.
+        let length = left.len().min(MOST_SAMPLES);
+        self.feed(&left[..length], 400);
+        self.look();
+    }
+}
+
+/// Calls on good settings, then a feed of what is left, and a look; sometimes after starts that are
+/// refused, with each number.
+pub fn list(rng: &mut Rng, seen: &mut Tally) -> List {
+    let mut list = List::default();
+    for number in 1..=if rng.chance(12) { 6 } else { 0 } {
+        let bytes = waves::refused(rng, number);
+        list.item(START, rng.next() as u8, rng.range(0, 3) as usize, &bytes);
+        list.text += &format!("refused {number}\n");
+        seen.items[START as usize] += 1;
+        seen.refusals[number as usize] += 1;
+    }
+    let s = waves::settings(rng);
+    let bytes = settings_bytes(&s);
+    let calls = rng.range(1, 25);
+    list.item(START, rng.next() as u8, calls as usize + 2, &bytes);
+    list.text += "start\n";
+    seen.items[START as usize] += 1;
+    let engineer = Engineer::start(&bytes).unwrap();
+    let mut making = Making { rng, s, engineer, list, seen };
+    making.calls(calls);
+    assert_eq!(making.engineer.written(), making.engineer.due());
+    making.seen.marks.readings(&making.engineer.readings());
+    making.list
+}
+
+/// Puts what the program does not read any more behind a list: where a start should stand, another
+/// item, and then a start.
+pub fn end(list: &mut List, kind: u8) {
+    list.item(kind, 1, 20, &[1, 2, 3, 4, 5, 6]);
+    list.item(START, 1, 0, &[1, 2, 3]);
+}
+
+/// The lists that the gate runs the program on, one behind the other, and what it does not read.
+pub fn files(seen: &mut Tally) -> List {
+    let mut all = List::default();
+    for number in FILES_LISTS {
+        let list = list(&mut Rng::of_case(FILES_SEED, number), seen);
+        all.input.extend(list.input);
+        all.text += &list.text;
+    }
+    end(&mut all, FEED);
+    all
+}
+
+/// One item, and the input after it; none where the input has no whole one.
+fn next_item(input: &[u8]) -> Option<(u8, u8, usize, &[u8], &[u8])> {
+    let (&[kind, fill, a, b, c, d], rest) = input.split_first_chunk::<6>()?;
+    let (number, length) = (u16::from_le_bytes([a, b]), u16::from_le_bytes([c, d]));
+    let (bytes, rest) = rest.split_at_checked(length as usize)?;
+    Some((kind, fill, number as usize, bytes, rest))
+}
+
+/// What the program prints on any input, by the logger.
+pub fn by_logger(mut input: &[u8]) -> String {
+    let mut text = String::new();
+    while let Some((START, _, calls, settings, rest)) = next_item(input) {
+        input = rest;
+        let mut logger = match Logger::start(settings) {
+            Ok(logger) => logger,
+            Err(number) => {
+                text += &format!("refused {number}\n");
+                continue;
+            }
+        };
+        text += "start\n";
+        for _ in 0..calls {
+            let Some((kind, fill, number, bytes, rest)) = next_item(input) else { return text };
+            input = rest;
+            match kind {
+                FEED => {
+                    let mut room = vec![fill; number];
+                    let fed = logger.feed(bytes.as_chunks::<2>().0, &mut room);
+                    let answer = fed.map(|fed| (fed, room));
+                    text += &feed_line(&answer, number, fill);
+                }
+                LOOK => text += &look_line(&logger.look()),
+                _ => {}
+            }
+        }
+    }
+    text
+}
