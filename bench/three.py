@@ -1,17 +1,23 @@
 #!/usr/bin/env python3
-"""What three channels cost beside one: python3 bench/three.py ONE THREE [ROUNDS]
+"""What three channels cost beside one: python3 bench/three.py ONE THREE READ [ROUNDS]
 
-ONE and THREE are the event programs of one channel and of three. Both are run in turn on recordings of as many half-cycles, idle and noisy, and the user time of each
-run is taken. Prints nanoseconds a half-cycle, medians and in brackets the least, and their ratio."""
+ONE and THREE are the event programs of one channel and of three, READ a program that only reads. They run in turn on files of as many half-cycles, idle and noisy.
+The time of a run is user and system time together, since the kernel parts the two by its clock's ticks; what READ takes for the same file is taken off.
+The programs do not feed alike: 1024 samples at a time and 4096 triples. Feeds of one length differ by more, since a short feed costs one channel more a half-cycle.
+Prints nanoseconds a half-cycle, medians and in brackets the least, and their ratio."""
 import math
+import os
 import random
 import resource
 import struct
 import subprocess
 import sys
+import tempfile
 
 SETTINGS = (50, 184000, 300, 150, 500, 9000, 11000, 200)
-HALVES = 1 << 20
+HALVES = 1 << 18
+# Bytes that each event program reads at a time: a reading in other pieces takes another time.
+PIECES = ("2048", "24576")
 
 
 def blocks(m, noise):
@@ -23,29 +29,44 @@ def blocks(m, noise):
     return [struct.pack(f"<{len(part)}h", *part) for part in (one, three)], HALVES * m // len(one)
 
 
-def seconds(program, settings, block, times):
-    """The user time of one run."""
-    before = resource.getrusage(resource.RUSAGE_CHILDREN).ru_utime
-    with subprocess.Popen([program], stdin=subprocess.PIPE, stdout=subprocess.DEVNULL) as run:
-        run.stdin.write(settings)
-        for _ in range(times):
-            run.stdin.write(block)
-    return resource.getrusage(resource.RUSAGE_CHILDREN).ru_utime - before
+def seconds(command, path):
+    """The user and system time of one run."""
+    before = resource.getrusage(resource.RUSAGE_CHILDREN)
+    with open(path, "rb") as recording:
+        subprocess.run(command, stdin=recording, stdout=subprocess.DEVNULL, check=True)
+    after = resource.getrusage(resource.RUSAGE_CHILDREN)
+    return after.ru_utime - before.ru_utime + after.ru_stime - before.ru_stime
+
+
+def costs(runs):
+    """Nanoseconds a half-cycle without the reading, from the runs of a program and of its reading: the median and the least."""
+    whole, reading = (sorted(times) for times in zip(*runs))
+    return [1e9 * (whole[i] - reading[i]) / HALVES for i in (len(whole) // 2, 0)]
+
+
+def measure(programs, read, m, noise, rounds, folder):
+    """The costs of one channel and of three."""
+    parts, times = blocks(m, noise)
+    paths = [os.path.join(folder, name) for name in ("one", "three")]
+    for path, part in zip(paths, parts):
+        with open(path, "wb") as file:
+            file.write(struct.pack("<9I", m, *SETTINGS))
+            for _ in range(times):
+                file.write(part)
+    runs = [[(seconds([program], path), seconds([read, piece], path)) for program, piece, path in zip(programs, PIECES, paths)] for _ in range(rounds)]
+    return [costs(each) for each in zip(*runs)]
 
 
 def main():
-    programs = sys.argv[1:3]
-    rounds = int(sys.argv[3]) if len(sys.argv) > 3 else 9
-    print("Three channels beside one: ns a half-cycle of the event programs, medians [least]")
-    for m in (8, 64, 256):
-        for name, noise in (("idle", 0), ("noisy", 400)):
-            settings = struct.pack("<9I", m, *SETTINGS)
-            parts, times = blocks(m, noise)
-            runs = [[1e9 * seconds(program, settings, part, times) / HALVES for program, part in zip(programs, parts)] for _ in range(rounds)]
-            one, three = (sorted(run) for run in zip(*runs))
-            middle = rounds // 2
-            each = "  ".join(f"{word} {times[middle]:6.1f} [{times[0]:5.1f}]" for word, times in (("one", one), ("three", three)))
-            print(f"M {m:3}, {name:5}  {each}  ratio {three[middle] / one[middle]:.2f} [{three[0] / one[0]:.2f}]")
+    programs, read = sys.argv[1:3], sys.argv[3]
+    rounds = int(sys.argv[4]) if len(sys.argv) > 4 else 31
+    print("Three channels beside one: ns a half-cycle of the event programs without their reading, medians [least]")
+    with tempfile.TemporaryDirectory() as folder:
+        for m in (8, 64, 256):
+            for name, noise in (("idle", 0), ("noisy", 400)):
+                one, three = measure(programs, read, m, noise, rounds, folder)
+                each = "  ".join(f"{word} {cost[0]:6.1f} [{cost[1]:5.1f}]" for word, cost in (("one", one), ("three", three)))
+                print(f"M {m:3}, {name:5}  {each}  ratio {three[0] / one[0]:.2f} [{three[1] / one[1]:.2f}]")
 
 
 main()
