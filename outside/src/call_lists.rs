@@ -210,6 +210,18 @@ impl List {
         Some("more lines, or no end of the last one".into())
     }
 
+    /// Another list behind this one.
+    pub fn append(&mut self, list: List) {
+        self.input.extend(list.input);
+        self.text += &list.text;
+    }
+
+    /// Writes the program's input in the gate, and what it must write.
+    pub fn write(&self, folder: &str) {
+        std::fs::write(format!("{folder}/stdin"), &self.input).expect("the input cannot be written");
+        std::fs::write(format!("{folder}/stdout"), &self.text).expect("the text cannot be written");
+    }
+
     pub fn item(&mut self, kind: u8, fill: u8, number: usize, bytes: &[u8]) {
         self.input.extend([kind, fill]);
         for x in [number, bytes.len()] {
@@ -355,9 +367,7 @@ pub fn list(rng: &mut Rng, seen: &mut Tally) -> List {
 pub fn files(seen: &mut Tally) -> List {
     let mut all = List::default();
     for number in FILES_LISTS {
-        let list = list(&mut Rng::of_case(FILES_SEED, number), seen);
-        all.input.extend(list.input);
-        all.text += &list.text;
+        all.append(list(&mut Rng::of_case(FILES_SEED, number), seen));
     }
     all
 }

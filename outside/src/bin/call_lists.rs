@@ -6,7 +6,7 @@
 //! call_lists --files FOLDER
 
 use outside::arguments::Arguments;
-use outside::call_lists::{files, list, List, Tally};
+use outside::call_lists::{files, list, Tally};
 use outside::programs::{pieces, written};
 use outside::rng::Rng;
 use outside::seen::tell;
@@ -32,18 +32,11 @@ fn run(seed: u64, number: u64, program: &str, seen: &mut Tally) {
     }
 }
 
-/// Writes the program's input in the gate, and what it must write.
-fn write_files(folder: &str) {
-    let List { input, text } = files(&mut Tally::default());
-    std::fs::write(format!("{folder}/stdin"), input).expect("the input cannot be written");
-    std::fs::write(format!("{folder}/stdout"), text).expect("the text cannot be written");
-}
-
 fn main() {
     let mut args = Arguments::new(USAGE);
     if let Some(words) = args.flag("--files", 1) {
         args.numbers(0);
-        return write_files(&words[0]);
+        return files(&mut Tally::default()).write(&words[0]);
     }
     let require_all = args.flag("--require-all", 0).is_some();
     let one_list = args.flag("--list", 2);

@@ -7,7 +7,6 @@
 //! call_lists_three --by-logger < LISTS
 
 use outside::arguments::Arguments;
-use outside::call_lists::List;
 use outside::programs::{pieces, written};
 use outside::rng::Rng;
 use outside::seen::tell;
@@ -40,18 +39,11 @@ fn run(seed: u64, number: u64, program: &str, seen: &mut Tally) {
     }
 }
 
-/// Writes the program's input in the gate, and what it must write.
-fn write_files(folder: &str) {
-    let List { input, text } = files(&mut Tally::default());
-    std::fs::write(format!("{folder}/stdin"), input).expect("the input cannot be written");
-    std::fs::write(format!("{folder}/stdout"), text).expect("the text cannot be written");
-}
-
 fn main() {
     let mut args = Arguments::new(USAGE);
     if let Some(words) = args.flag("--files", 1) {
         args.numbers(0);
-        return write_files(&words[0]);
+        return files(&mut Tally::default()).write(&words[0]);
     }
     if args.flag("--by-logger", 0).is_some() {
         args.numbers(0);

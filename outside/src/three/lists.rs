@@ -256,9 +256,7 @@ pub fn end(list: &mut List, kind: u8) {
 pub fn files(seen: &mut Tally) -> List {
     let mut all = List::default();
     for number in FILES_LISTS {
-        let list = list(&mut Rng::of_case(FILES_SEED, number), seen);
-        all.input.extend(list.input);
-        all.text += &list.text;
+        all.append(list(&mut Rng::of_case(FILES_SEED, number), seen));
     }
     end(&mut all, FEED);
     all
