@@ -11,6 +11,16 @@ rt check event_log call_lists event_log_three call_lists_three
 export PROVED_LIB_DIR=$PWD/target/staticlib
 cargo build --release --offline --quiet --features proved --manifest-path outside/Cargo.toml
 programs=${CARGO_TARGET_DIR:-outside/target}/release
-"$programs/compare" "$1" "$3" --require-all --program target/bin/event_log --program-three target/bin/event_log_three
-"$programs/call_lists" "$2" "$3" --require-all --program target/bin/call_lists
-"$programs/call_lists_three" "$(($2 / 4 + 100))" "$3" --require-all --program target/bin/call_lists_three
+lists=$(mktemp)
+trap 'rm -f "$lists"' EXIT
+
+# The lists go beside the cases: each comparison takes one processor.
+{
+    "$programs/call_lists" "$2" "$3" --require-all --program target/bin/call_lists &&
+        "$programs/call_lists_three" "$(($2 / 4 + 100))" "$3" --require-all --program target/bin/call_lists_three
+} >"$lists" 2>&1 &
+alike=0
+"$programs/compare" "$1" "$3" --require-all --program target/bin/event_log --program-three target/bin/event_log_three || alike=$?
+wait $! || alike=$?
+cat "$lists"
+exit "$alike"
