@@ -103,9 +103,6 @@ module _ {s : Settings} {t : Scaled} {v : ℕ} {w ms : List ℕ} {a : Sums} {y :
       (λ k. steadyBy (scaled-is k) (n-is k) (staying (n-is k) v w) (joining-is k .number) (joining-is k .value) (joining-is k .after) p)
       ∙ steady-is s v w (y .value) (ready .window-valid) p valid
 
-  pub moved-by : (b : Bool) (p : Phase) → movedBy n j b p ≡ movedBy (windowLength s) (joiningOf (windowLength s) v w ms (y .value) stands) b p
-  moved-by b p = λ k. movedBy (n-is k) (joining-is k) b p
-
   pub joins-ready : (p : Phase) → Joins t n j p
   joins-ready p = rw (scaled-is, n-is, joining-is) (joins s v w ms (y .value) stands (ready .window-valid) p settings-valid (ready .value-le))
 

@@ -26,6 +26,7 @@ use Rattle.rvc.specs.Signal.{signalOf, turned, ValidSignal}
 use Rattle.rvc.specs.SignalFollows.{signal-follows}
 use Rattle.rvc.specs.StandLaws.{stand-begins, stand-grows, stand-settled}
 use Rattle.rvc.specs.Phase.{movedBy, joiningOf, phaseUnder, changeUpTo, dropped, changeEnded, endedUnder}
+use Rattle.rvc.specs.ChangeFollows.{settled-mark}
 use Rattle.rvc.specs.PhaseFollows.{phase-under, ended-under}
 use Rattle.records.specs.Due.{recordsOf}
 use Rattle.detection.specs.Detection.{standsAt}
@@ -93,11 +94,6 @@ module _ (s : Settings) (hist : List (Three ℕ)) (ms : List ℕ) (beside : leng
       ap (λ (v : ℕ). 0 <ᵇ stand && stand ≤ᵇ v - windowLength s) (length-channel c hist)
       ∙ sym (stand-settled (standsNow s) (jointFirstStand s) (λ k. refl) (λ k r older. refl) k (windowLength s) hist)
 
-  mark-is : clippedFrom s k ms ≡ eventClipped ms event
-  mark-is =
-      let same : length ms - windowLength s ≡ k + (length hist - windowLength s - k) = omega arith in
-      ap (λ (i : ℕ). anyMarked (since k (upTo i ms))) same
-
   same-three : (b : Bool) → (b || (b || b)) ≡ b
   same-three true = refl
   same-three false = refl
@@ -113,7 +109,7 @@ module _ (s : Settings) (hist : List (Three ℕ)) (ms : List ℕ) (beside : leng
       let second = most-three (each (λ (own : List ℕ). gap (windowSum s own) (sumBefore s k own)) (channels hist)) in
       λ j. record {
         event = record { kind = 4; start = k; duration = lasts j; first = first j; second = second j };
-        clipped = (same-three (clippedFrom s k ms) ∙ mark-is) j;
+        clipped = (same-three (clippedFrom s k ms) ∙ settled-mark s k (length hist) ms beside late) j;
       } ∷ []
 
   change-listed : let ended : Channel → Ended = λ c. changeEnded s (channel c hist) ms k stand in

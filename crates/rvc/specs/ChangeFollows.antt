@@ -146,21 +146,23 @@ module _ (s : Settings) (r : ℕ) (older : List ℕ) (ms : List ℕ) where
   change-ends now k stands f full =
       rw (window-follows (windowLength s) r older (windowLength-some s) (windowLength-most s), windowSum-windowOf s (r ∷ older) full)
 
--- its record, where k + N is behind it: the last value of its first magnitude is m − N
+-- its mark, where k + N is behind it: the last value of its first magnitude is m − N
+pub settled-mark : (s : Settings) (k v : ℕ) (ms : List ℕ) → length ms ≡ v → k + windowLength s ≤ v
+    → clippedFrom s k ms ≡ anyMarked (since k (upTo (k + (v - windowLength s - k)) ms))
+settled-mark s k v ms beside full =
+    let same : length ms - windowLength s ≡ k + (v - windowLength s - k) = omega arith in
+    ap (λ (i : ℕ). anyMarked (since k (upTo i ms))) same
+
+-- its record
 module _ (s : Settings) (hist ms : List ℕ) (beside : length ms ≡ length hist) where
   pub ended-listed : (k f : ℕ) → k + windowLength s ≤ length hist →
       listOf (changeEnded s hist ms k f) ≡ map (recordOf ms) (if dropped s hist f then [] else changeUpTo s hist k ∷ [])
   ended-listed k f full = listed (dropped s hist f)
     where
-      mark-is : clippedFrom s k ms ≡ eventClipped ms (changeUpTo s hist k)
-      mark-is =
-          let same : length ms - windowLength s ≡ k + (length hist - windowLength s - k) = omega arith in
-          ap (λ (i : ℕ). anyMarked (since k (upTo i ms))) same
-
       listed : (b : Bool) → listOf (if b then Nothing else Over (record { event = changeUpTo s hist k; clipped = clippedFrom s k ms }))
           ≡ map (recordOf ms) (if b then [] else changeUpTo s hist k ∷ [])
       listed true = refl
-      listed false = λ j. record { event = changeUpTo s hist k; clipped = mark-is j } ∷ []
+      listed false = λ j. record { event = changeUpTo s hist k; clipped = settled-mark s k (length hist) ms beside full j } ∷ []
 
   -- of the reading's own change
   pub event-listed : (k : ℕ) → k + windowLength s ≤ length hist → listOf (changeEnded s hist ms k (firstStand s k hist)) ≡ map (recordOf ms) (changeEvent s k hist)

@@ -1,4 +1,4 @@
--- The code's step under the phase's own signal is the step of the phase; and the signal of a phase turns with it.
+-- The code's step under the phase's own signal is the step of the phase; and a phase of a history has the signal that it stands under.
 use mathlib.Core.Path.{_≡_, refl, ap}
 use mathlib.Core.Bool.{Bool, true, false}
 use mathlib.Core.List.{List}
@@ -28,19 +28,7 @@ valid-signal n v p valid = go p (valid-allowed n v p valid)
     go Steady h = h
     go (Changing c) h = (h .0, h .1 .0)
 
--- under any truth
-pub moved-signal : (n : ℕ) (j : Joining) (b : Bool) (p : Phase) → signalIn (movedBy n j b p .phase) ≡ signalAfter n (j .number) b (signalIn p)
-moved-signal n j true p = refl
-moved-signal n j false Filling = fills (j .number <ᵇ n)
-  where
-    fills : (few : Bool) → signalIn (if few then Filling else Unsettled) ≡ (if few then signalIn Filling else signalIn Unsettled)
-    fills true = refl
-    fills false = refl
-moved-signal n j false Unsettled = refl
-moved-signal n j false Steady = refl
-moved-signal n j false (Changing c) = refl
-
--- and of a history under any signal
+-- of a history under any signal
 pub signal-under : (s : Settings) (hist ms : List ℕ) (stand : ℕ → ℕ) (p : Signal) → signalIn (phaseUnder s hist ms stand p) ≡ signalOf p
 signal-under s hist ms stand filling = refl
 signal-under s hist ms stand unsettled = refl

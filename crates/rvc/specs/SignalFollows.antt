@@ -94,15 +94,6 @@ module _ (s : Settings) where
       subst (λ (q : Signal). ValidSignal n (suc (length older)) (signalOf q)) (sym (next-turned s (r ∷ older) p))
       (turned-valid n (length older) (trueAt s (r ∷ older) p) p full h)
 
-  pub steady-full : (hist : List ℕ) → isSteady s hist ≡ true → windowLength s ≤ length hist
-  steady-full hist e = go (signal s hist) (signal-valid hist) e
-    where
-      go : (p : Signal) → ValidSignal (windowLength s) (length hist) (signalOf p) → truth p ≡ true → windowLength s ≤ length hist
-      go filling h e = absurd (true≢false (sym e))
-      go unsettled h e = h
-      go steady h e = h
-      go (changing k) h e = absurd (true≢false (sym e))
-
   -- a value r after older ones
   module _ (r : ℕ) (older : List ℕ) where
     pub true-follows : (p : Signal) → ValidSignal (windowLength s) (length older) (signalOf p) →
@@ -115,12 +106,6 @@ module _ (s : Settings) where
     -- the channel's own signal: its truth at r, and the signal after it
     abbrev own : Bool
     own = steadyAfter s (length older) (windowOf (windowLength s) older) r (signalOf (signal s older))
-
-    pub truth-follows : own ≡ isSteady s (r ∷ older)
-    truth-follows =
-        let p = signal s older in
-        true-follows p (signal-valid older)
-        ∙ sym (ap truth (next-turned s (r ∷ older) p) ∙ turned-truth n (suc (length older)) (trueAt s (r ∷ older) p) p)
 
     pub signal-follows : signalAfter (windowLength s) (suc (length older)) own (signalOf (signal s older)) ≡ signalOf (signal s (r ∷ older))
     signal-follows =

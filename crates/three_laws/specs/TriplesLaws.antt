@@ -48,9 +48,6 @@ tripleSamples-append rec more p q c = rw (channel-append c rec more) (samples-ap
 pub tripleSamples-take : (n : ℕ) (rec : List (Three ℤ)) → TripleSamples rec → TripleSamples (take n rec)
 tripleSamples-take n rec p c = rw (channel-take c n rec) (samples-take n (channel c rec) (p c))
 
-pub tripleSamples-drop : (n : ℕ) (rec : List (Three ℤ)) → TripleSamples rec → TripleSamples (drop n rec)
-tripleSamples-drop n rec p c = rw (channel-drop c n rec) (samples-drop n (channel c rec) (p c))
-
 pub triples-samples : (block : List ℤ) → Samples block → TripleSamples (triplesOf block)
 triples-samples [] p c = tt
 triples-samples (x ∷ []) p c = tt
