@@ -3,7 +3,7 @@
 
 ONE and THREE are the event programs of one channel and of three, READ a program that only reads. They run in turn on files of as many half-cycles, idle and noisy.
 The time of a run is user and system time together, since the kernel parts the two by its clock's ticks; what READ takes for the same file is taken off.
-The programs do not feed alike: 1024 samples at a time and 4096 triples. Feeds of one length differ by more, since a short feed costs one channel more a half-cycle.
+Both programs feed 4096 samples of a channel at a time.
 Prints nanoseconds a half-cycle, medians and in brackets the least, and their ratio."""
 import math
 import os
@@ -17,7 +17,7 @@ import tempfile
 SETTINGS = (50, 184000, 300, 150, 500, 9000, 11000, 200)
 HALVES = 1 << 18
 # Bytes that each event program reads at a time: a reading in other pieces takes another time.
-PIECES = ("2048", "24576")
+PIECES = ("8192", "24576")
 
 
 def blocks(m, noise):

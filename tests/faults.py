@@ -262,7 +262,7 @@ def main():
     with work_folder() as folder:
         library = preload(sys.argv[1])
         log = Program(sys.argv[1], "log", 4096, 2, library, folder)
-        programs = [log] + [Program(path, "event_log", 2048, 0, library, folder) for path in sys.argv[2:3]]
+        programs = [log] + [Program(path, "event_log", 8192, 0, library, folder) for path in sys.argv[2:3]]
         programs += [Program(path, "event_log_three", 8192, 0, library, folder, channels=3) for path in sys.argv[3:]]
         text = example("worked")[1]
         same("log: a write is lost at the close", log.run(example("worked")[0], "close:1:EIO"), (2, text, log.message("output", "EIO")))

@@ -67,8 +67,8 @@ left-next st x inside = sample-leaves cutter st x Less (left-part m v g inside x
     half false w below = left-first m v g inside p w
 
 pub bytes-fall : (l : Logger) (bytes : List ℕ) (good : Bool) (got : ℕ) (t : FedAll) (more : Bool) → ValidState (l .state) → length bytes ≡ got
-    → t ≡ fedAllFrom l (samplesOf bytes) → more ≡ (good && got ≡ᵇ 2048 && t .why ≡ᵇ 0) → leftWhile left more (t .logger .state) < leftWhile left true (l .state)
+    → t ≡ fedAllFrom l (samplesOf bytes) → more ≡ (good && got ≡ᵇ 8192 && t .why ≡ᵇ 0) → leftWhile left more (t .logger .state) < leftWhile left true (l .state)
 bytes-fall l bytes good got t more valid long is more-is =
-    chunk-falls machine left Inside left-next (samplesOf bytes) (l .state) (t .logger .state) (t .why) 2048 got good more
+    chunk-falls machine left Inside left-next (samplesOf bytes) (l .state) (t .logger .state) (t .why) 8192 got good more
     (valid .settings-valid .samples-valid .1, valid .gatherer-valid .0) (λ i. record { after = is i .logger .state; why = is i .why })
     (λ whole. omega (arith, length-samples bytes)) more-is

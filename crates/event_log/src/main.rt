@@ -18,7 +18,7 @@ ghost use Rattle.event_log.specs.FedAll.{fedAllFrom};
 const NAME: [u8; 11] = *b"event_log: ";
 
 // The samples that are read at a time, of two bytes each.
-const CHUNK: usize = 1024;
+const CHUNK: usize = 4096;
 
 const CHUNK_BYTES: usize = 2 * CHUNK;
 
@@ -65,7 +65,7 @@ fn feed_all(logger: Logger, samples: &[i16]) -> Turn
 
 // Feeds the samples of a chunk; a last odd byte is none.
 fn feed_chunk(logger: Logger, bytes: &[u8]) -> Turn
-    requires { ⌜ ValidState (logger .state) × (length (now bytes) ≤ 2048) ⌝ }
+    requires { ⌜ ValidState (logger .state) × (length (now bytes) ≤ 8192) ⌝ }
     ensures { λ r. ⌜ (r .fed ≡ fedAllFrom logger (samplesOf (now (bytes .entry)))) × ValidState (r .fed .logger .state) ⌝ }
 {
     let count = bytes.len() / 2;

@@ -12,7 +12,7 @@ use Rattle.event_log.proofs.log.Statement.{statement}
 use Rattle.event_log.proofs.log.Tie as tie
 
 abbrev Inv-loop : tie.InvT-loop
-Inv-loop good₀ logger₀ bytes₀ why₀ more₀ name good logger bytes why more = ValidState (logger .state) × (length bytes ≡ 2048) × (length name ≡ 11)
+Inv-loop good₀ logger₀ bytes₀ why₀ more₀ name good logger bytes why more = ValidState (logger .state) × (length bytes ≡ 8192) × (length name ≡ 11)
 
 abbrev μ-loop : tie.MeasureT-loop
 μ-loop good₀ logger₀ bytes₀ why₀ more₀ name good logger bytes why more = leftWhile left more (logger .state)
