@@ -1,10 +1,13 @@
 // What the programs that make lists of calls share: the items of standard input, each 6 bytes and then as many bytes as they say (the table is in
-// call_lists/src/main.rt), and the lines that answers are printed in.
+// call_lists/src/main.rt), and the lines that answers are printed in. No contract can say what is read or written.
 use libc::STDIN_FILENO;
 use libc::STDOUT_FILENO;
 use reading::Told;
+ghost use mathlib.Core.Path.{_≡_};
+ghost use mathlib.Core.List.{_++_};
 ghost use Prim.Native.Nat.{_*_, _≤_, _<_};
-ghost use lib.ListN.{length};
+ghost use lib.ListN.{length, drop, replicate};
+ghost use Rattle.call_items.specs.Items.{noItem, NextItem, digitOf, hexOf};
 
 // The kinds of items that all of them know.
 pub const START: u8 = 0;
@@ -33,7 +36,9 @@ pub struct Item {
     pub length: u16,
 }
 
-fn no_item() -> Item {
+fn no_item() -> Item
+    ensures { λ r. ⌜ r ≡ noItem ⌝ }
+{
     Item {
         kind: NOTHING,
         fill: 0,
@@ -42,9 +47,10 @@ fn no_item() -> Item {
     }
 }
 
-// The next item, with the bytes that follow it at the start of `bytes`.
+// The next item, with the bytes that follow it at the start of `bytes`; the others stay.
 pub fn next_item(bytes: &mut [u8]) -> Item
     requires { ⌜ 65535 ≤ length (now bytes) ⌝ }
+    ensures { λ r. ⌜ NextItem (now (bytes .entry)) r (now (bytes .exit)) ⌝ }
 {
     let mut head = [0u8; HEAD];
     if io::read_full(STDIN_FILENO, &mut head) < HEAD {
@@ -94,6 +100,7 @@ pub fn print_answer(word: &[u8], number: u64) {
 // A digit in base sixteen.
 fn digit(number: u8) -> u8
     requires { ⌜ number < 16 ⌝ }
+    ensures { λ r. ⌜ r ≡ digitOf number ⌝ }
 {
     if number < 10 {
         b'0' + number
@@ -102,9 +109,10 @@ fn digit(number: u8) -> u8
     }
 }
 
-// Two digits for each byte.
+// Two digits for each byte, from the text's start on; what is behind them stays.
 fn put_hex(text: &mut [u8], bytes: &[u8])
     requires { ⌜ 2 * length (now bytes) ≤ length (now text) ⌝ }
+    ensures { λ _. ⌜ now (text .exit) ≡ hexOf (now (bytes .entry)) ++ drop (2 * length (now (bytes .entry))) (now (text .entry)) ⌝ }
 {
     let mut i = 0;
     while i < bytes.len() {
@@ -128,7 +136,9 @@ pub fn print_bytes(bytes: &[u8])
     end_line();
 }
 
-pub fn set_all(buffer: &mut [u8], byte: u8) {
+pub fn set_all(buffer: &mut [u8], byte: u8)
+    ensures { λ _. ⌜ now (buffer .exit) ≡ replicate (length (now (buffer .entry))) byte ⌝ }
+{
     let mut i = 0;
     while i < buffer.len() {
         buffer[i] = byte;

@@ -1,7 +1,11 @@
--- The part that is read into has the length that the head says.
+-- The part that is read into has the length that the head says, and what is behind it stays.
 use mathlib.Core.Path.{sym}
+use mathlib.Core.Bool.{true, false}
+use native.Mathlib.Omega.{arith}
+use lib.ListN.{getD}
 use lib.Seq.{length-take-le}
 use borrow.Author.Needs.{needs}
+use Rattle.call_items.specs.ItemsLaws.{no-head, item-read}
 use Rattle.call_items.proofs.next_item.Statement.{statement}
 use Rattle.call_items.proofs.next_item.Tie as tie
 
@@ -15,7 +19,7 @@ no-item-requires : tie.Need-no-item-requires
 no-item-requires c κs = search needs
 
 returns : tie.Need-returns
-returns c = search needs
+returns c = no-head (c .no-item .ensures)
 
 slice-aggregate-get-u16 : tie.Need-slice-aggregate-get-u16
 slice-aggregate-get-u16 c = search needs
@@ -42,7 +46,12 @@ same-length : tie.Need-same-length
 same-length c = search needs
 
 returns-2 : tie.Need-returns-2
-returns-2 c = search needs
+returns-2 c =
+    let read = c .before .before .before .before in
+    let first = read .before .before .before .before .before .before in
+    let head = first .read-full in
+    item-read (first .before .before .before .args .bytes .now) (head .last .1 .0) (read .read-full2 .last .1 .0) (read .before .before .get-u16 .result) false
+    (omega (arith, head .kept)) (read .read-full2 .kept .1 .0) (search needs) (search needs) (λ long. c .no-item2 .ensures)
 
 array-read-t15 : tie.Need-array-read-t15
 array-read-t15 c = search needs
@@ -60,7 +69,15 @@ same-length-2 : tie.Need-same-length-2
 same-length-2 c = search needs
 
 returns-3 : tie.Need-returns-3
-returns-3 c = search needs
+returns-3 c =
+    let read = c .before .before .before .before .before in
+    let first = read .before .before .before .before .before .before in
+    let head = first .read-full in
+    let bytes = head .last .1 .0 in
+    let length = read .before .before .get-u16 in
+    item-read (first .before .before .before .args .bytes .now) bytes (read .read-full2 .last .1 .0) (length .result) true
+    (omega (arith, head .kept)) (read .read-full2 .kept .1 .0) (search needs) (search needs) (λ long.
+    (λ j. record { kind = getD bytes 0 0; fill = getD bytes 1 0; number = c .get-u162 .ensures j; length = length .ensures j }, long))
 
 pub next-item-spec : {M : Type 1} → statement M
 next-item-spec =

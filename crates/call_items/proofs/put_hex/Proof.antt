@@ -1,20 +1,21 @@
--- The invariant: the text keeps its length.
-use mathlib.Core.Path.{_≡_}
+-- The invariant: the first i bytes are put, and behind them the text is as it was.
+use mathlib.Core.Path.{_≡_, refl}
 use Prim.Native.Nat.{_≤_, _-_}
 use native.Mathlib.Omega.{arith}
 use lib.ListN.{length, length-set}
 use borrow.Author.Needs.{needs}
+use Rattle.call_items.specs.ItemsLaws.{HexSoFar, hex-one, hex-all}
 use Rattle.call_items.proofs.put_hex.Statement.{statement}
 use Rattle.call_items.proofs.put_hex.Tie as tie
 
 abbrev Inv-loop : tie.InvT-loop
-Inv-loop text₀ bytes i₀ text i = (i ≤ length bytes) × (length text ≡ length text₀)
+Inv-loop text₀ bytes i₀ text i = (i ≤ length bytes) × (length text ≡ length text₀) × HexSoFar text₀ bytes i text
 
 abbrev μ-loop : tie.MeasureT-loop
 μ-loop text₀ bytes i₀ text i = length bytes - i
 
 loop-holds : tie.Need-loop-holds Inv-loop μ-loop
-loop-holds c = search needs
+loop-holds c = (omega arith, refl, refl)
 
 mul-at : tie.Need-mul-at Inv-loop μ-loop
 mul-at c = search needs
@@ -44,13 +45,20 @@ loop-less : tie.Need-loop-less Inv-loop μ-loop
 loop-less c = search needs
 
 loop-again : tie.Need-loop-again Inv-loop μ-loop
-loop-again c = search needs
+loop-again c =
+    let loop = c .before .before .before .before .loop in
+    let args = c .before .before .before .before .before .before .before .args in (
+      search needs,
+      search needs,
+      hex-one (args .text .now) (args .bytes .now) (loop .text) (loop .i) (loop .inv .2) _ _ (c .before .digit .ensures) (c .digit2 .ensures)
+          (omega arith) (omega arith),
+    )
 
 same-length : tie.Need-same-length Inv-loop μ-loop
 same-length c = search needs
 
 returns : tie.Need-returns Inv-loop μ-loop
-returns c = search needs
+returns c = hex-all _ _ _ (c .before .loop .i) (c .before .loop .inv .2) (omega arith)
 
 pub put-hex-spec : {M : Type 1} → statement M
 put-hex-spec =
