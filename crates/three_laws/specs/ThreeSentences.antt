@@ -9,6 +9,7 @@ use Rattle.settings.specs.declared.Settings.{Settings}
 use Rattle.settings.specs.Settings.{windowLength, ValidSettings}
 use Rattle.reading.specs.declared.Event.{Event}
 use Rattle.reading.specs.declared.Record.{Record}
+use Rattle.reading.specs.Values.{valueCount}
 use Rattle.reading.specs.Clipping.{lastMeasured, eventClipped}
 use Rattle.reading.specs.Changes.{Signal, signal}
 use Rattle.reading.specs.Changes.Signal.{filling, unsettled, steady, changing}
@@ -61,6 +62,8 @@ pub record JointClippedFrom (s : Settings) (rec : List (Three ℤ)) (a l : ℕ) 
   pub clipped : jointClipped s rec which ≡ true
 
 pub record ThreeSentences : Type 0 where
+  -- V is the same of each channel
+  pub same-count : (s : Settings) (rec : List (Three ℤ)) (c : Channel) → valueCount s (channel c rec) ≡ jointCount s rec
   -- three channels with one recording have the records of that recording
   pub equal-channels : (s : Settings) (rec : List ℤ) → jointRecords s (equally rec) ≡ records s rec
   -- channels in another order have the same records

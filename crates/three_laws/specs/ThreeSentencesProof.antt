@@ -8,6 +8,7 @@ use Rattle.reading_laws.specs.TakenLaws.{taken-le, taken-allowed, taken-greates
 use Rattle.three_reading.specs.Three.{Three, each, allOf, jointCount}
 use Rattle.three_reading.specs.JointChanges.{isTrue}
 use Rattle.three_laws.specs.ThreeSentences.{ThreeSentences}
+use Rattle.three_laws.specs.RecordingsLaws.{count-channel}
 use Rattle.three_laws.specs.EqualLaws.{records-same}
 use Rattle.three_laws.specs.SignalsLaws.{own-signal, own-signals, joint-all, joint-true, change-lasts}
 use Rattle.three_laws.specs.JointPhaseLaws.{joint-says, joint-only}
@@ -18,6 +19,7 @@ use Rattle.three_laws.specs.ThreePast.{threePast, jointRecords-events, t
 
 pub sentences-hold : ThreeSentences
 sentences-hold = record {
+  same-count = count-channel;
   equal-channels = records-same;
   any-order = λ s rec. (records-ordered ab-fair s rec, records-ordered bc-fair s rec);
   own-signals = λ s hist c. own-signal s c hist;

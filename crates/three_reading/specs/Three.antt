@@ -48,7 +48,7 @@ channel c l = map (at c) l
 abbrev pub channels : {X : Type 0} → List (Three X) → Three (List X)
 channels l = record { a = channel onA l; b = channel onB l; c = channel onC l }
 
--- V is the same of each
+-- V, the same of each channel: `same-count` of `ThreeSentences`
 abbrev pub jointCount : Settings → List (Three ℤ) → ℕ
 jointCount s rec = valueCount s (channel onA rec)
 
