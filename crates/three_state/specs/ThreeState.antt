@@ -54,7 +54,7 @@ threeOn s g hist ms = threeWith s g (jointOf s hist ms) (windowsOf (windowLength
 abbrev pub threeStateOf : Settings → List (Three ℤ) → ThreeState
 threeStateOf s rec = threeOn s (gatherersOf s rec) (jointValues s rec) (jointMarks s rec (jointCount s rec))
 
--- look: of one channel, from its window after v values; the phase is that of each channel
+-- look: of one channel, from its window after v values
 abbrev pub channelReadingsOf : Settings → ℕ → List ℕ → ChannelReadings
 channelReadingsOf s v w = record {
   count = v;
@@ -62,6 +62,7 @@ channelReadingsOf s v w = record {
   sum = if v <ᵇ windowLength s then 0 else windowSum s w;
 }
 
+-- the joint phase is channel a's: a recording leaves each channel's phase under the one joint signal (`ownOf`), whose number it has (`three-readings-of`)
 unfoldable pub threeReadingsOf : ThreeState → ThreeReadings
 threeReadingsOf st = record {
   a = channelReadingsOf (st .settings) (st .joint .count) (st .a);
