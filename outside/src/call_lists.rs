@@ -2,15 +2,19 @@
 //! the whole recording by the engineer, and after a restore of accepted bytes, which have no
 //! recording, by the stepper. The form of the input stands in the head of the program's source.
 
+use crate::arguments::Arguments;
 use crate::engineer::{Answer, Call, Engineer, Fed, Looked};
 use crate::images::{self, Fields};
 use crate::lists::next_call;
 use crate::marks::Marks;
+use crate::programs::{pieces, written};
 use crate::readings::{energy, has_clipped};
 use crate::rng::{one_of, Rng};
 use crate::room::RECORD;
 use crate::rules::{self, settings_bytes, Settings, IMAGE};
+use crate::seen::tell;
 use crate::{clips, stepper, waves};
+use std::process::exit;
 
 /// The most samples that follow an item, and the saves that the program keeps.
 const MOST_SAMPLES: usize = 32_767;
@@ -210,6 +214,14 @@ impl List {
         Some("more lines, or no end of the last one".into())
     }
 
+    /// What differs first in what the program prints on the list, given in random pieces.
+    pub fn program_difference(&self, program: &str, rng: &mut Rng) -> Option<String> {
+        match written(program, &self.input, &pieces(rng, self.input.len())) {
+            Ok(text) => self.difference(&text.printed),
+            Err(text) => Some(text),
+        }
+    }
+
     /// Another list behind this one.
     pub fn append(&mut self, list: List) {
         self.input.extend(list.input);
@@ -218,7 +230,8 @@ impl List {
 
     /// Writes the program's input in the gate, and what it must write.
     pub fn write(&self, folder: &str) {
-        std::fs::write(format!("{folder}/stdin"), &self.input).expect("the input cannot be written");
+        std::fs::write(format!("{folder}/stdin"), &self.input)
+            .expect("the input cannot be written");
         std::fs::write(format!("{folder}/stdout"), &self.text).expect("the text cannot be written");
     }
 
@@ -420,4 +433,42 @@ fn make_calls(
         let taken = list.call(call, fill, measure, seen);
         source.drain(..taken);
     }
+}
+
+/// Runs a program on random lists, the one that is asked for or so many of a seed, and tells what
+/// they have shown. `difference` makes and runs one; where it finds a difference, that is told under
+/// the caller's name, and the end is with 1.
+pub fn compare<T: Default>(
+    name: &str,
+    mut args: Arguments,
+    difference: impl Fn(&mut Rng, &str, &mut T) -> Option<String>,
+    counts: impl Fn(&T) -> Vec<(String, u64)>,
+) {
+    let require_all = args.flag("--require-all", 0).is_some();
+    let one_list = args.flag("--list", 2);
+    let Some(program) = args.flag("--program", 1).map(|x| x[0].clone()) else { args.usage() };
+    let mut seen = T::default();
+    let mut run = |seed: u64, number: u64| {
+        if let Some(text) = difference(&mut Rng::of_case(seed, number), &program, &mut seen) {
+            println!("different: {text}");
+            println!("replay: {name} --list {seed} {number} --program {program}");
+            exit(1)
+        }
+    };
+    if let Some(words) = one_list {
+        args.numbers(0);
+        run(args.number(&words[0]), args.number(&words[1]));
+        println!("1 lists, 0 different");
+        return;
+    }
+    let numbers = args.numbers(2);
+    let (lists, seed) = (numbers[0], numbers[1]);
+    for number in 0..lists {
+        run(seed, number);
+    }
+    let all_seen = tell(&counts(&seen));
+    if require_all && !all_seen {
+        exit(1);
+    }
+    println!("{lists} lists, 0 different");
 }

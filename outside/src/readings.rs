@@ -159,29 +159,13 @@ impl<'a> Readings<'a> {
     /// All records due, by due value and then by kind.
     pub fn records(&self) -> Vec<Record> {
         let mut list = Vec::new();
-        self.event_records(1, &self.dip, &mut list);
-        self.event_records(2, &self.swell, &mut list);
-        self.event_records(3, &self.interruption, &mut list);
+        for (kind, stands) in [(1, &self.dip), (2, &self.swell), (3, &self.interruption)] {
+            let clipped = |a, z| self.any_clipped(a, z);
+            list.extend(event_records(kind, stands, clipped, |a, z| self.magnitude(kind, a, z)));
+        }
         self.change_records(&mut list);
         list.sort_by_key(|x| (x.due, x.kind));
         list
-    }
-
-    fn event_records(&self, kind: i64, stands: &[bool], list: &mut Vec<Record>) {
-        let v = self.v();
-        for a in (1..=v).filter(|&a| begins(stands, a)) {
-            if let Some(b) = (a + 1..=v).find(|&b| !stands[b as usize]) {
-                list.push(Record {
-                    due: b,
-                    kind,
-                    clipped: self.any_clipped(a, b - 1),
-                    start: a,
-                    duration: b - a,
-                    first: self.magnitude(kind, a, b - 1),
-                    second: 0,
-                });
-            }
-        }
     }
 
     /// The least, or for a swell the greatest, r of a to z.
@@ -416,4 +400,29 @@ fn stands_above(s: &Settings, r: &[i64]) -> Vec<bool> {
 /// Whether an event first stands at i.
 pub fn begins(stands: &[bool], i: i64) -> bool {
     stands[i as usize] && !stands[i as usize - 1]
+}
+
+/// The records of the events that have ended: mark and first magnitude are told of the first and
+/// the last value at which each stands.
+pub fn event_records(
+    kind: i64,
+    stands: &[bool],
+    clipped: impl Fn(i64, i64) -> bool,
+    magnitude: impl Fn(i64, i64) -> i64,
+) -> Vec<Record> {
+    let v = stands.len() as i64 - 1;
+    let from = (1..=v).filter(|&a| begins(stands, a));
+    from.filter_map(|a| {
+        let b = (a + 1..=v).find(|&b| !stands[b as usize])?;
+        Some(Record {
+            due: b,
+            kind,
+            clipped: clipped(a, b - 1),
+            start: a,
+            duration: b - a,
+            first: magnitude(a, b - 1),
+            second: 0,
+        })
+    })
+    .collect()
 }

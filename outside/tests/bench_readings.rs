@@ -3,7 +3,7 @@
 
 mod common;
 
-use common::{bytes, feed, numbers, Q};
+use common::{bytes, feed, numbers, refuses_settings, Q};
 use outside::engineer::{Engineer, Fed, Looked};
 use outside::hosts::hosts;
 use outside::rules::IMAGE;
@@ -129,12 +129,7 @@ fn the_event_program() {
         // A last odd byte is ignored.
         assert_eq!(program(&[&input[..], &[1]].concat()), text);
         assert_eq!(program(&input[..36]), "kind start halves first second\nvalues 0\n");
-        assert_eq!(program(&input[..35]), "refused 1\n");
-        for (at, number) in [(0, 2), (4, 3), (8, 4), (12, 5), (20, 6)] {
-            let mut bad = input.clone();
-            bad[at..at + 4].fill(255);
-            assert_eq!(program(&bad), format!("refused {number}\n"));
-        }
+        refuses_settings(program, &input);
     }
 }
 

@@ -3,7 +3,7 @@
 
 mod common;
 
-use common::{bytes, numbers, Q};
+use common::{bytes, numbers, refuses_settings, Q};
 use outside::engineer::{self, Fed};
 use outside::rng::Rng;
 use outside::rules::{settings_bytes, RECORD};
@@ -334,12 +334,7 @@ fn the_event_program() {
         assert_eq!(told(5), "event_log_three: not ended: dip\n");
         assert_eq!(told(6), "event_log_three: not ended: dip\nevent_log_three: not ended: swell\n");
         assert_eq!(program(&input[..41]), "kind start halves first second\nvalues 0\n");
-        assert_eq!(program(&input[..35]), "refused 1\n");
-        for (at, number) in [(0, 2), (4, 3), (8, 4), (12, 5), (20, 6)] {
-            let mut bad = input.clone();
-            bad[at..at + 4].fill(255);
-            assert_eq!(program(&bad), format!("refused {number}\n"));
-        }
+        refuses_settings(program, &input);
     }
 }
 

@@ -3,7 +3,7 @@
 //! kept between readings.
 
 use super::CHANNELS;
-use crate::readings::{self, begins, Record};
+use crate::readings::{self, begins, event_records, Record};
 use crate::rules::Settings;
 
 /// The readings of three recordings of one length. Lists that are counted from 1 have an unused
@@ -85,30 +85,15 @@ impl<'a> Readings<'a> {
     pub fn records(&self) -> Vec<Record> {
         let mut list = Vec::new();
         for kind in 1..=3 {
-            self.event_records(kind, &mut list);
+            let clipped = |a, z| self.any_clipped(a, z);
+            list.extend(event_records(kind, self.stands(kind), clipped, |a, z| {
+                let magnitudes = self.channels.iter().map(|x| x.magnitude(kind, a, z));
+                if kind == 2 { magnitudes.max() } else { magnitudes.min() }.unwrap()
+            }));
         }
         self.change_records(&mut list);
         list.sort_by_key(|x| (x.due, x.kind));
         list
-    }
-
-    fn event_records(&self, kind: i64, list: &mut Vec<Record>) {
-        let v = self.v();
-        let stands = self.stands(kind);
-        for a in (1..=v).filter(|&a| begins(stands, a)) {
-            let Some(b) = (a + 1..=v).find(|&b| !stands[b as usize]) else { continue };
-            let magnitudes = self.channels.iter().map(|x| x.magnitude(kind, a, b - 1));
-            let worst = if kind == 2 { magnitudes.max() } else { magnitudes.min() };
-            list.push(Record {
-                due: b,
-                kind,
-                clipped: self.any_clipped(a, b - 1),
-                start: a,
-                duration: b - a,
-                first: worst.unwrap(),
-                second: 0,
-            });
-        }
     }
 
     /// All changes that have ended: k and m.

@@ -56,3 +56,14 @@ pub fn numbers(record: &[u8]) -> [u32; 5] {
     let four = |at: usize| u32::from_le_bytes(record[at..at + 4].try_into().unwrap());
     [0, 4, 8, 12, 16].map(four)
 }
+
+/// The event program refuses settings that are too short, and those that break one rule, with its
+/// number.
+pub fn refuses_settings(program: impl Fn(&[u8]) -> String, input: &[u8]) {
+    assert_eq!(program(&input[..35]), "refused 1\n");
+    for (at, number) in [(0, 2), (4, 3), (8, 4), (12, 5), (20, 6)] {
+        let mut bad = input.to_vec();
+        bad[at..at + 4].fill(255);
+        assert_eq!(program(&bad), format!("refused {number}\n"));
+    }
+}
