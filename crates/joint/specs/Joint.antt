@@ -5,7 +5,7 @@ use mathlib.Core.Bool.{Bool, true, false, _&&_, _||_}
 use mathlib.Core.List.{List, map}
 use Prim.Native.Nat.{ℕ, suc, max, _≤_, _<_}
 use lib.ListN.{length}
-use Rattle.numbers.specs.Notation.{if_then_else_, flag}
+use Rattle.numbers.specs.Notation.{flag}
 use Rattle.settings.specs.declared.Settings.{Settings}
 use Rattle.settings.specs.declared.Scaled.{Scaled}
 use Rattle.settings.specs.declared.Threshold.{Threshold}
@@ -35,9 +35,9 @@ use Rattle.rvc.specs.Phase.{movedBy, phaseUnder, ValidPhase}
 use Rattle.records.specs.declared.Due.{Due}
 use Rattle.records.specs.Due.{recordsOf}
 use Rattle.detection.specs.Detection.{standsAt, joinedOf, WindowReady}
-use Rattle.three_reading.specs.Three.{Three, each, anyOf, allOf, Channel, at, channel}
+use Rattle.three_reading.specs.Three.{Three, each, Channel, at, channel}
 use Rattle.three_reading.specs.Three.Channel.{onA, onB, onC}
-use Rattle.three_reading.specs.JointEvents.{jointBegins, jointEnds, jointSince, worst}
+use Rattle.three_reading.specs.JointEvents.{beginsOf, endsOf, jointBegins, jointEnds, jointSince, worst}
 use Rattle.three_reading.specs.JointChanges.{signals, jointFirstStand}
 use Rattle.joint.specs.declared.Values.{Values}
 use Rattle.joint.specs.declared.Own.{Own}
@@ -75,16 +75,12 @@ threeOf x y z = record { a = x; b = y; c = z }
 abbrev pub Small3 : Three ℕ → Type 0
 Small3 r = (c : Channel) → at c r ≤ 524288
 
--- the two tests against a kind's scaled levels: any or all of the three
+-- the two tests against a kind's scaled levels
 abbrev pub jointBeginsAt : Kind → Threshold → Three ℕ → Bool
-jointBeginsAt Dip t r = anyOf (each (beginsAt Dip t) r)
-jointBeginsAt Swell t r = anyOf (each (beginsAt Swell t) r)
-jointBeginsAt Interruption t r = allOf (each (beginsAt Interruption t) r)
+jointBeginsAt k t r = beginsOf k (each (beginsAt k t) r)
 
 abbrev pub jointEndsAt : Kind → Threshold → Three ℕ → Bool
-jointEndsAt Dip t r = allOf (each (endsAt Dip t) r)
-jointEndsAt Swell t r = allOf (each (endsAt Swell t) r)
-jointEndsAt Interruption t r = anyOf (each (endsAt Interruption t) r)
+jointEndsAt k t r = endsOf k (each (endsAt k t) r)
 
 -- a joint event after value i, as the code tests it and by the reading's tests
 abbrev pub jointSteppedAt : Kind → Threshold → ℕ → Values → Standing → Standing

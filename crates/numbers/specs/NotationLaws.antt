@@ -1,9 +1,10 @@
--- The laws of the notation: what conjunctions and disjunctions of tests say, a mark both ways, and what a chain of refusals answers.
-use mathlib.Core.Path.{_≡_, refl, ap}
+-- The laws of the notation: what conjunctions and disjunctions of tests say, two tests of numbers, a mark both ways, and what a chain of refusals answers.
+use mathlib.Core.Path.{_≡_, refl, sym, ap}
 use mathlib.Core.Bool.{Bool, true, false, not, _&&_, _||_}
 use Prim.Native.Nat.{ℕ, zero, suc, _≤_, _<_}
 use native.Mathlib.Omega.{arith}
-use Rattle.numbers.specs.Notation.{_≡ᵇ_, flag, refuse_unless_then_}
+use borrow.Author.Tests.{ltb-true, ltb-false, lt-leb, le-leb}
+use Rattle.numbers.specs.Notation.{_≤ᵇ_, _<ᵇ_, _≡ᵇ_, flag, refuse_unless_then_}
 
 pub and-true : {a b : Bool} → a ≡ true → b ≡ true → (a && b) ≡ true
 and-true p q = λ i. p i && q i
@@ -37,6 +38,14 @@ implied false b e p = let z : _≡_ {A = ℕ} 0 1 = cc in absurd (omega arith)
 pub imply : (a b : Bool) → (a ≡ true → b ≡ true) → (not a || b) ≡ true
 imply true b f = f refl
 imply false b f = refl
+
+-- a number is past another where it is not up to it
+pub past-not : (a b : ℕ) → (a <ᵇ b) ≡ not (b ≤ᵇ a)
+past-not a b = go (a <ᵇ b) refl
+  where
+    go : (t : Bool) → (a <ᵇ b) ≡ t → t ≡ not (b ≤ᵇ a)
+    go true e = ap not (sym (lt-leb b a (ltb-true a b e)))
+    go false e = ap not (sym (le-leb b a (ltb-false a b e)))
 
 -- a mark both ways
 pub flag-most : (b : Bool) → flag b ≤ 1

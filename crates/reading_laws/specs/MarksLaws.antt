@@ -25,16 +25,10 @@ marked-later : (b : Bool) (ms : List ℕ) → anyMarked ms ≡ true → anyMarke
 marked-later true ms e = refl
 marked-later false ms e = e
 
--- the marks of values by any test, i back to 1; and one of the values from a to l passes it
+-- the marks of values by any test, i back to 1
 abbrev pub marksBy : (ℕ → Bool) → ℕ → List ℕ
 marksBy test zero = []
 marksBy test (suc i) = flag (test (suc i)) ∷ marksBy test i
-
-pub record Passes (test : ℕ → Bool) (a l : ℕ) : Type 0 where
-  pub which : ℕ
-  pub from : a ≤ which
-  pub to : which ≤ l
-  pub passes : test which ≡ true
 
 module _ (test : ℕ → Bool) where
   length-marksBy : (i : ℕ) → length (marksBy test i) ≡ i
@@ -80,28 +74,22 @@ module _ (test : ℕ → Bool) where
           let e : suc l ≡ j = omega (arith, f) in
           marked-first (test (suc l)) (take n (marksBy test l)) (ap test e ∙ c)
 
-  -- a mark from a to l is 1 exactly where a value there passes
-  pub marked-passes : (i a l : ℕ) → l ≤ i → anyMarked (since a (upTo l (marksBy test i))) ≡ true → Passes test a l
-  marked-passes i a l h m =
-      let there = found (suc l - a) l (sym (ap anyMarked (span-is a l i h)) ∙ m) in
-      record { which = there .0; from = omega (arith, there .1, there .2); to = there .2; passes = there .3 }
+  -- so of marks that are the test's: one from a to l is 1 exactly where a value there passes
+  module _ (ms : ℕ → List ℕ) (by : (i : ℕ) → ms i ≡ marksBy test i) where
+    marked-is : (i a l : ℕ) → l ≤ i → anyMarked (since a (upTo l (ms i))) ≡ anyMarked (take (suc l - a) (marksBy test l))
+    marked-is i a l h = ap (λ (z : List ℕ). anyMarked (since a (upTo l z))) (by i) ∙ ap anyMarked (span-is a l i h)
 
-  pub passes-marked : (i a l : ℕ) → 1 ≤ a → l ≤ i → Passes test a l → anyMarked (since a (upTo l (marksBy test i))) ≡ true
-  passes-marked i a l some h there =
-      ap anyMarked (span-is a l i h) ∙ shown (suc l - a) l (there .which) (omega (arith, there .from)) (omega (arith, there .from, there .to)) (there .to) (there .passes)
+    pub marked-clipped : (i a l : ℕ) → l ≤ i → anyMarked (since a (upTo l (ms i))) ≡ true → ClippedFrom test a l
+    marked-clipped i a l h m =
+        let there = found (suc l - a) l (sym (marked-is i a l h) ∙ m) in
+        record { which = there .0; from = omega (arith, there .1, there .2); to = there .2; told = there .3 }
+
+    pub clipped-marked : (i a l : ℕ) → 1 ≤ a → l ≤ i → ClippedFrom test a l → anyMarked (since a (upTo l (ms i))) ≡ true
+    clipped-marked i a l some h there =
+        marked-is i a l h
+        ∙ shown (suc l - a) l (there .which) (omega (arith, there .from)) (omega (arith, there .from, there .to)) (there .to) (there .told)
 
 -- the marks of a recording
-module _ (s : Settings) (rec : List ℤ) where
-  marks-by : (i : ℕ) → marks s rec i ≡ marksBy (valueClipped s rec) i
-  marks-by zero = refl
-  marks-by (suc i) = ap (λ (ms : List ℕ). flag (valueClipped s rec (suc i)) ∷ ms) (marks-by i)
-
-  pub marked-clipped : (i a l : ℕ) → l ≤ i → anyMarked (since a (upTo l (marks s rec i))) ≡ true → ClippedFrom s rec a l
-  marked-clipped i a l h m =
-      let there = marked-passes (valueClipped s rec) i a l h (sym (ap (λ (ms : List ℕ). anyMarked (since a (upTo l ms))) (marks-by i)) ∙ m) in
-      record { at = there .which; from = there .from; to = there .to; clipped = there .passes }
-
-  pub clipped-marked : (i a l : ℕ) → 1 ≤ a → l ≤ i → ClippedFrom s rec a l → anyMarked (since a (upTo l (marks s rec i))) ≡ true
-  clipped-marked i a l some h there =
-      ap (λ (ms : List ℕ). anyMarked (since a (upTo l ms))) (marks-by i)
-      ∙ passes-marked (valueClipped s rec) i a l some h (record { which = there .at; from = there .from; to = there .to; passes = there .clipped })
+pub marks-by : (s : Settings) (rec : List ℤ) (i : ℕ) → marks s rec i ≡ marksBy (valueClipped s rec) i
+marks-by s rec zero = refl
+marks-by s rec (suc i) = ap (λ (ms : List ℕ). flag (valueClipped s rec (suc i)) ∷ ms) (marks-by s rec i)

@@ -50,12 +50,12 @@ PhaseSays s hist unsettled = (windowLength s ≤ length hist) × NeverTrue s his
 PhaseSays s hist steady = isSteady s hist ≡ true
 PhaseSays s hist (changing k) = LastTurnedFalse s hist k
 
--- a value from a to l is clipped
-pub record ClippedFrom (s : Settings) (rec : List ℤ) (a l : ℕ) : Type 0 where
-  pub at : ℕ
-  pub from : a ≤ at
-  pub to : at ≤ l
-  pub clipped : valueClipped s rec at ≡ true
+-- a value from a to l is clipped, where `clipped` tells of each whether it is
+pub record ClippedFrom (clipped : ℕ → Bool) (a l : ℕ) : Type 0 where
+  pub which : ℕ
+  pub from : a ≤ which
+  pub to : which ≤ l
+  pub told : clipped which ≡ true
 
 pub record Sentences : Type 0 where
   -- the root of n is the greatest number whose square is at most n
@@ -93,6 +93,6 @@ pub record Sentences : Type 0 where
   pub records-are-events : (s : Settings) (rec : List ℤ) → map (λ (r : Record). r .event) (records s rec) ≡ events s (values s rec)
   -- an event's mark, read off the marks up to any value i from its last measured one on: 1 exactly when a value from its start to that one is clipped
   pub marked-only-if : (s : Settings) (rec : List ℤ) (i : ℕ) (e : Event) → lastMeasured e ≤ i → eventClipped (marks s rec i) e ≡ true
-      → ClippedFrom s rec (e .start) (lastMeasured e)
-  pub marked-if : (s : Settings) (rec : List ℤ) (i : ℕ) (e : Event) → 1 ≤ e .start → lastMeasured e ≤ i → ClippedFrom s rec (e .start) (lastMeasured e)
-      → eventClipped (marks s rec i) e ≡ true
+      → ClippedFrom (valueClipped s rec) (e .start) (lastMeasured e)
+  pub marked-if : (s : Settings) (rec : List ℤ) (i : ℕ) (e : Event) → 1 ≤ e .start → lastMeasured e ≤ i
+      → ClippedFrom (valueClipped s rec) (e .start) (lastMeasured e) → eventClipped (marks s rec i) e ≡ true

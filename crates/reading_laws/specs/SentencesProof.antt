@@ -4,8 +4,8 @@ use Rattle.reading_laws.specs.Sentences.{Sentences}
 use Rattle.reading_laws.specs.RootLaws.{root-is, root-most}
 use Rattle.reading_laws.specs.RecordingsLaws.{value-is, value-le, value-grow}
 use Rattle.reading.specs.Values.{valueCount}
-use Rattle.reading.specs.Clipping.{lastMeasured}
-use Rattle.reading_laws.specs.MarksLaws.{marked-clipped, clipped-marked}
+use Rattle.reading.specs.Clipping.{valueClipped, marks, lastMeasured}
+use Rattle.reading_laws.specs.MarksLaws.{marks-by, marked-clipped, clipped-marked}
 use Rattle.reading_laws.specs.Past.{past}
 use Rattle.reading_laws.specs.PastLaws.{past-grows, records-events}
 use Rattle.reading_laws.specs.CompletedLaws.{records-completed}
@@ -30,6 +30,6 @@ sentences-hold = record {
   taken-most = λ s h rec block room. taken-greatest (past s) rec block room;
   records-added = λ s h. records-completed (past-grows s h);
   records-are-events = λ s rec. records-events s rec (valueCount s rec);
-  marked-only-if = λ s rec i e h. marked-clipped s rec i (e .start) (lastMeasured e) h;
-  marked-if = λ s rec i e some h. clipped-marked s rec i (e .start) (lastMeasured e) some h;
+  marked-only-if = λ s rec i e h. marked-clipped (valueClipped s rec) (marks s rec) (marks-by s rec) i (e .start) (lastMeasured e) h;
+  marked-if = λ s rec i e some h. clipped-marked (valueClipped s rec) (marks s rec) (marks-by s rec) i (e .start) (lastMeasured e) some h;
 }

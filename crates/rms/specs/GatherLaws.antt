@@ -1,6 +1,6 @@
 -- The laws of the gatherer's steps: a part adds up with the sample before it, what holds of a gatherer is kept, and the value that comes out is small.
 use mathlib.Core.Path.{_≡_, refl, sym, _∙_, ap}
-use mathlib.Core.Bool.{Bool, true, false, _||_, or-assoc}
+use mathlib.Core.Bool.{Bool, true, false, _||_, or-assoc, or-false}
 use mathlib.Core.List.{List, [], _∷_}
 use Prim.Native.Nat.{ℕ, _+_, _*_, _^_, _≤_, _<_}
 use native.Mathlib.Omega.{arith}
@@ -19,6 +19,10 @@ pub same-gatherer : {a b : Gatherer} → a .count ≡ b .count → a .sum ≡ b 
     → a .«last_clipped» ≡ b .«last_clipped» → a ≡ b
 same-gatherer p q r t u v = λ i. record { count = p i; sum = q i; last = r i; whole = t i; clipped = u i; «last_clipped» = v i }
 
+-- no sample joins nothing
+pub none-joins : (g : Gatherer) → withPart g (partOf []) ≡ g
+none-joins g = same-gatherer (omega arith) (omega arith) refl refl (or-false (g .clipped)) refl
+
 -- one sample, then a part
 module _ (g : Gatherer) (x : ℤ) (xs : List ℤ) where
   abbrev next : Gatherer
@@ -36,9 +40,12 @@ module _ (g : Gatherer) (x : ℤ) (xs : List ℤ) where
   pub half-adds : withHalf next (partOf xs) ≡ withHalf g (partOf (x ∷ xs))
   half-adds = λ i. record { count = 0; sum = 0; last = sum-is i; whole = true; clipped = false; «last_clipped» = mark-is i }
 
+  pub value-with : (m : ℕ) → valueWith m next (partOf xs) ≡ valueWith m g (partOf (x ∷ xs))
+  value-with m = λ i. record { value = rms m (g .last) (sum-is i); clipped = g .«last_clipped» || mark-is i }
+
   pub value-adds : (m : ℕ) → valueFrom m next (partOf xs) ≡ valueFrom m g (partOf (x ∷ xs))
   unfolding valueFrom
-  value-adds m = λ i. if g .whole then record { value = rms m (g .last) (sum-is i); clipped = g .«last_clipped» || mark-is i } ∷ [] else []
+  value-adds m = λ i. if g .whole then value-with m i ∷ [] else []
 
 -- what comes out
 module _ (m : ℕ) (g : Gatherer) (p : Part) where

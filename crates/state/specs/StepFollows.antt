@@ -8,8 +8,9 @@ use native.Mathlib.Omega.{arith}
 use native.Mathlib.Nat.{add-suc, div-le-self}
 use lib.ListN.{length, drop, getD}
 use lib.IntN.{ℤ}
-use borrow.Author.Tests.{ltb-true, ltb-false, le-ltb, lt-leb, le-leb}
-use Rattle.numbers.specs.Notation.{_≤ᵇ_, _<ᵇ_, if_then_else_, flag}
+use borrow.Author.Tests.{ltb-false, le-ltb}
+use Rattle.numbers.specs.Notation.{_<ᵇ_, if_then_else_, flag}
+use Rattle.numbers.specs.NotationLaws.{past-not}
 use Rattle.settings.specs.declared.Settings.{Settings}
 use Rattle.settings.specs.Settings.{windowLength}
 use Rattle.settings.specs.SettingsLaws.{windowLength-some, windowLength-most}
@@ -98,13 +99,6 @@ module _ (s : Settings) where
         ap₂ _++_ (dueOn-follows xs)
         (ap (λ (st : State). dueAt s x (st .detector) (st .window) (st .marks)) (withValues-follows xs)
         ∙ due-follows s (x .value) (sizes xs hist) (x .clipped) (flags xs ms) (beside-on xs))
-
-past-not : (a b : ℕ) → (a <ᵇ b) ≡ not (b ≤ᵇ a)
-past-not a b = go (a <ᵇ b) refl
-  where
-    go : (t : Bool) → (a <ᵇ b) ≡ t → t ≡ not (b ≤ᵇ a)
-    go true e = ap not (sym (lt-leb b a (ltb-true a b e)))
-    go false e = ap not (sym (le-leb b a (ltb-false a b e)))
 
 -- one sample
 module _ (s : Settings) (some : 0 < s .samples) (rec : List ℤ) (x : ℤ) where

@@ -1,18 +1,16 @@
 -- A state takes samples by half-cycles: its cut goes by one sample, and a part after a sample is one part with it.
 use mathlib.Core.Path.{_≡_, refl, _∙_, ap}
-use mathlib.Core.Bool.{or-false}
 use mathlib.Core.List.{List, [], _∷_, _++_}
 use Prim.Native.Nat.{_+_, _<_}
-use native.Mathlib.Omega.{arith}
 use lib.ListN.{length}
 use lib.IntN.{ℤ}
 use Rattle.numbers.specs.Notation.{_<ᵇ_}
 use Rattle.reading.specs.Feed.{lastValue}
 use Rattle.rms.specs.declared.Marked.{Marked}
 use Rattle.rms.specs.declared.Gatherer.{Gatherer}
-use Rattle.rms.specs.Gather.{partOf, withPart}
+use Rattle.rms.specs.Gather.{partOf}
 use Rattle.rms.specs.CutLaws.{cut-none, next-below, cut-cons, cut-within}
-use Rattle.rms.specs.GatherLaws.{same-gatherer, part-adds, half-adds, value-adds}
+use Rattle.rms.specs.GatherLaws.{none-joins, part-adds, half-adds, value-adds}
 use Rattle.detection.specs.Detection.{dueAt}
 use Rattle.greedy.specs.CutterLaws.{Cuts}
 use Rattle.state.specs.declared.State.{State}
@@ -28,9 +26,6 @@ dueOn-gatherer [] st g = refl
 dueOn-gatherer (x ∷ xs) st g = λ i.
     let before : State = withValues-gatherer xs st g i in
     dueOn-gatherer xs st g i ++ dueAt (st .settings) x (before .detector) (before .window) (before .marks)
-
-none-joins : (g : Gatherer) → withPart g (partOf []) ≡ g
-none-joins g = same-gatherer (omega arith) (omega arith) refl refl (or-false (g .clipped)) refl
 
 -- a part after a sample
 module _ (st : State) (x : ℤ) (xs : List ℤ) where

@@ -5,7 +5,6 @@ pub mod RecordingsLaws
 pub mod ThreePast
 pub mod SignalsLaws
 pub mod JointPhaseLaws
-pub mod JointMarksLaws
 pub mod EventsLaws
 pub mod EqualLaws
 pub mod OrderLaws

@@ -10,6 +10,7 @@ use Rattle.numbers.specs.Notation.{flag}
 use Rattle.reading.specs.Values.{value, valueCount, history}
 use Rattle.reading.specs.Clipping.{valueClipped, recordOf}
 use Rattle.reading_laws.specs.RecordingsLaws.{valueCount-grow, value-grow, valueClipped-grow}
+use Rattle.reading_laws.specs.MarksLaws.{marksBy}
 use Rattle.three_reading.specs.Three.{Three, each, anyOf, Channel, at, channel, channels, jointCount, jointValue, jointHistory, jointClipped, jointMarks}
 use Rattle.three_reading.specs.Three.Channel.{onA}
 use Rattle.three_reading.specs.JointRecords.{jointDue, jointRecordsAt}
@@ -27,6 +28,10 @@ module _ (s : Settings) (rec : List (Three ℤ)) where
   pub length-jointMarks : (i : ℕ) → length (jointMarks s rec i) ≡ i
   length-jointMarks zero = refl
   length-jointMarks (suc i) = ap suc (length-jointMarks i)
+
+  pub jointMarks-by : (i : ℕ) → jointMarks s rec i ≡ marksBy (jointClipped s rec) i
+  jointMarks-by zero = refl
+  jointMarks-by (suc i) = ap (λ (ms : List ℕ). flag (jointClipped s rec (suc i)) ∷ ms) (jointMarks-by i)
 
   -- a channel's values are those of its own recording
   pub channel-value : (c : Channel) (i : ℕ) → at c (jointValue s rec i) ≡ value s (channel c rec) i

@@ -14,6 +14,7 @@ use Rattle.reading.specs.Clipping.{lastMeasured, eventClipped}
 use Rattle.reading.specs.Changes.{Signal, signal}
 use Rattle.reading.specs.Changes.Signal.{filling, unsettled, steady, changing}
 use Rattle.reading.specs.Feed.{lastValue, records}
+use Rattle.reading_laws.specs.Sentences.{ClippedFrom}
 use Rattle.three_reading.specs.Three.{Three, each, allOf, Channel, at, channel, channels, jointCount, jointValues, jointClipped, jointMarks}
 use Rattle.three_reading.specs.JointChanges.{isTrue, signals}
 use Rattle.three_reading.specs.JointRecords.{jointEvents, jointRecordsAt}
@@ -54,13 +55,6 @@ JointSays s hist unsettled = (windowLength s ≤ length hist) × JointNever s hi
 JointSays s hist steady = jointTrue s hist (length hist) ≡ true
 JointSays s hist (changing k) = JointTurned s hist k
 
--- a joint value from a to l is clipped
-pub record JointClippedFrom (s : Settings) (rec : List (Three ℤ)) (a l : ℕ) : Type 0 where
-  pub which : ℕ
-  pub from : a ≤ which
-  pub to : which ≤ l
-  pub clipped : jointClipped s rec which ≡ true
-
 pub record ThreeSentences : Type 0 where
   -- V is the same of each channel
   pub same-count : (s : Settings) (rec : List (Three ℤ)) (c : Channel) → valueCount s (channel c rec) ≡ jointCount s rec
@@ -90,9 +84,9 @@ pub record ThreeSentences : Type 0 where
   pub records-are-events : (s : Settings) (rec : List (Three ℤ)) → map (λ (r : Record). r .event) (jointRecords s rec) ≡ jointEvents s (jointValues s rec)
   -- an event's mark, read off the joint marks up to any value i from its last measured one on: 1 exactly when a joint value from start to that one is clipped
   pub marked-only-if : (s : Settings) (rec : List (Three ℤ)) (i : ℕ) (e : Event) → lastMeasured e ≤ i → eventClipped (jointMarks s rec i) e ≡ true
-      → JointClippedFrom s rec (e .start) (lastMeasured e)
+      → ClippedFrom (jointClipped s rec) (e .start) (lastMeasured e)
   pub marked-if : (s : Settings) (rec : List (Three ℤ)) (i : ℕ) (e : Event) → 1 ≤ e .start → lastMeasured e ≤ i
-      → JointClippedFrom s rec (e .start) (lastMeasured e) → eventClipped (jointMarks s rec i) e ≡ true
+      → ClippedFrom (jointClipped s rec) (e .start) (lastMeasured e) → eventClipped (jointMarks s rec i) e ≡ true
   -- a joint signal that turned false at k is true again after k + N at the earliest, as an own one is
   pub change-lasts : (s : Settings) (r : Three ℕ) (older : List (Three ℕ)) (k : ℕ) → signals s older .joint ≡ changing k → signals s (r ∷ older) .joint ≡ steady
       → k + windowLength s < length (r ∷ older)

@@ -12,17 +12,24 @@ use Rattle.reading.specs.Values.{since}
 use Rattle.reading.specs.Thresholds.{begins, ends, magnitude, kindNumber}
 use Rattle.three_reading.specs.Three.{Three, each, anyOf, allOf}
 
+-- by a test of each channel: a dip or a swell begins with any and ends with all, an interruption begins with all and ends with any
+abbrev pub beginsOf : Kind → Three Bool → Bool
+beginsOf Dip t = anyOf t
+beginsOf Swell t = anyOf t
+beginsOf Interruption t = allOf t
+
+abbrev pub endsOf : Kind → Three Bool → Bool
+endsOf Dip t = allOf t
+endsOf Swell t = allOf t
+endsOf Interruption t = anyOf t
+
 -- a dip stands where any channel is below D, a swell where any is above W, an interruption where all are below I
 abbrev pub jointBegins : Settings → Kind → Three ℕ → Bool
-jointBegins s Dip r = anyOf (each (begins s Dip) r)
-jointBegins s Swell r = anyOf (each (begins s Swell) r)
-jointBegins s Interruption r = allOf (each (begins s Interruption) r)
+jointBegins s kind r = beginsOf kind (each (begins s kind) r)
 
 -- no dip stands where all are at D + G or above, no swell where all are at W − G or below, no interruption where one is at I + G or above
 abbrev pub jointEnds : Settings → Kind → Three ℕ → Bool
-jointEnds s Dip r = allOf (each (ends s Dip) r)
-jointEnds s Swell r = allOf (each (ends s Swell) r)
-jointEnds s Interruption r = anyOf (each (ends s Interruption) r)
+jointEnds s kind r = endsOf kind (each (ends s kind) r)
 
 -- the first standing value of the event that stands after the newest values, 0 where none stands. None stands before value 1; between it is as it was
 abbrev pub jointSince : Settings → Kind → List (Three ℕ) → ℕ

@@ -8,9 +8,9 @@ use native.Mathlib.Omega.{arith}
 use native.Mathlib.Nat.{mod-lt}
 use lib.ListN.{length, getD}
 use lib.IntN.{ℤ}
-use borrow.Author.Tests.{ltb-true, ltb-false, le-ltb, lt-leb, le-leb}
-use Rattle.numbers.specs.Notation.{_≤ᵇ_, _<ᵇ_, _≡ᵇ_, if_then_else_, flag}
-use Rattle.numbers.specs.NotationLaws.{flag-back}
+use borrow.Author.Tests.{le-ltb}
+use Rattle.numbers.specs.Notation.{_<ᵇ_, _≡ᵇ_, if_then_else_, flag}
+use Rattle.numbers.specs.NotationLaws.{past-not, flag-back}
 use Rattle.settings.specs.declared.Settings.{Settings}
 use Rattle.settings.specs.Settings.{windowLength}
 use Rattle.settings.specs.SettingsLaws.{windowLength-some, windowLength-most}
@@ -76,13 +76,6 @@ module _ (s : Settings) (g : Gatherers) (hist : List (Three ℕ)) (ms : List ℕ
   withJoint-follows : withJoint x (threeOn s g hist ms) ≡ threeOn s g (sizesOf x ∷ hist) (flag (x .clipped) ∷ ms)
   withJoint-follows = λ i.
       threeWith s g (joint-follows s (sizesOf x) hist (x .clipped) ms beside i) (threeOf (window-on onA i) (window-on onB i) (window-on onC i)) (marks-on i)
-
-past-not : (a b : ℕ) → (a <ᵇ b) ≡ not (b ≤ᵇ a)
-past-not a b = go (a <ᵇ b) refl
-  where
-    go : (t : Bool) → (a <ᵇ b) ≡ t → t ≡ not (b ≤ᵇ a)
-    go true e = ap not (sym (lt-leb b a (ltb-true a b e)))
-    go false e = ap not (sym (le-leb b a (ltb-false a b e)))
 
 -- what comes out with a sample: one where it ends a half-cycle and the one before was whole
 abbrev out : {X : Type 0} → Bool → Bool → X → List X

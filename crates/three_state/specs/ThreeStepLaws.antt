@@ -1,18 +1,16 @@
 -- A state of three channels takes triples by half-cycles: its cut goes by one triple, and a part after a triple is one part with it.
 use mathlib.Core.Path.{_≡_, refl, _∙_, ap}
-use mathlib.Core.Bool.{or-false, _||_}
 use mathlib.Core.List.{List, [], _∷_, _++_}
-use Prim.Native.Nat.{ℕ, _+_, _<_}
+use Prim.Native.Nat.{_+_, _<_}
 use native.Mathlib.Omega.{arith}
 use lib.ListN.{length}
 use lib.IntN.{ℤ}
 use Rattle.numbers.specs.Notation.{_<ᵇ_, if_then_else_}
 use Rattle.reading.specs.Feed.{lastValue}
-use Rattle.reading.specs.Values.{rms}
 use Rattle.rms.specs.declared.Gatherer.{Gatherer}
 use Rattle.rms.specs.Gather.{partOf, withPart, withHalf, valueWith}
 use Rattle.rms.specs.CutLaws.{cut-none, next-below, cut-cons, cut-within}
-use Rattle.rms.specs.GatherLaws.{same-gatherer, part-adds, half-adds}
+use Rattle.rms.specs.GatherLaws.{none-joins, part-adds, half-adds, value-with}
 use Rattle.greedy.specs.CutterLaws.{Cuts}
 use Rattle.three_reading.specs.Three.{Three, Channel, at, channel}
 use Rattle.three_reading.specs.Three.Channel.{onA, onB, onC}
@@ -36,17 +34,9 @@ dueOnThree-gatherers (x ∷ xs) st g = λ i.
     let before : ThreeState = withJoints-gatherers xs st g i in
     dueOnThree-gatherers xs st g i ++ jointDueAt (st .settings) x (before .joint) (windowsIn before) (before .marks)
 
--- one channel: no sample joins nothing, and the value of a part after a sample is that of both
-none-joins : (g : Gatherer) → withPart g (partOf []) ≡ g
-none-joins g = same-gatherer (omega arith) (omega arith) refl refl (or-false (g .clipped)) refl
-
+-- no triple joins nothing
 none-join : (g : Gatherers) → withParts g (partsOf []) ≡ g
 none-join g = λ i. record { a = none-joins (g .a) i; b = none-joins (g .b) i; c = none-joins (g .c) i }
-
-value-with : (m : ℕ) (g : Gatherer) (x : ℤ) (xs : List ℤ) → valueWith m (withPart g (partOf (x ∷ []))) (partOf xs) ≡ valueWith m g (partOf (x ∷ xs))
-value-with m g x xs = λ i.
-    let half : Gatherer = half-adds g x xs i in
-    record { value = rms m (g .last) (half .last); clipped = g .«last_clipped» || half .«last_clipped» }
 
 -- a part after a triple
 module _ (st : ThreeState) (x : Three ℤ) (xs : List (Three ℤ)) where
@@ -67,7 +57,7 @@ module _ (st : ThreeState) (x : Three ℤ) (xs : List (Three ℤ)) where
   half-at c = half-adds (own c) (at c x) (channel c xs)
 
   value-at : (c : Channel) → valueWith (st .settings .samples) (ownNext c) (partOf (channel c xs)) ≡ valueWith (st .settings .samples) (own c) (partOf (channel c (x ∷ xs)))
-  value-at c = value-with (st .settings .samples) (own c) (at c x) (channel c xs)
+  value-at c = value-with (own c) (at c x) (channel c xs) (st .settings .samples)
 
   parts-add : withParts (next .gatherers) (partsOf xs) ≡ withParts (st .gatherers) (partsOf (x ∷ xs))
   parts-add = λ i. record { a = part-at onA i; b = part-at onB i; c = part-at onC i }
