@@ -24,7 +24,7 @@ use Rattle.rvc.specs.declared.Phase.{Phase}
 use Rattle.rvc.specs.declared.Signal.{Signal}
 use Rattle.rvc.specs.Signal.{steadyBy, steadyAfter, ValidSignal, TestReady}
 use Rattle.rvc.specs.SignalLaws.{test-ready, steady-is}
-use Rattle.rvc.specs.Phase.{joiningOf, movedBy, movedOn, movedAfter, Joins, ValidPhase}
+use Rattle.rvc.specs.Phase.{joiningOf, movedOn, movedAfter, Joins, ValidPhase}
 use Rattle.rvc.specs.PhaseLaws.{joins, moved-is}
 use Rattle.detection.specs.declared.Detector.{Detector}
 use Rattle.detection.specs.declared.Joined.{Joined}

@@ -5,7 +5,7 @@ use Prim.Native.Nat.{ℕ, zero, suc}
 use lib.IntN.{ℤ}
 use lib.Dec.{eqb·suc-zero}
 use Rattle.octets.specs.Bytes.{row}
-use Rattle.numbers.specs.Notation.{_≡ᵇ_, if_then_else_, flag}
+use Rattle.numbers.specs.Notation.{_≡ᵇ_, if_then_else_}
 use Rattle.settings.specs.declared.Settings.{Settings}
 use Rattle.settings.specs.Settings.{settingsBytes}
 use Rattle.reading.specs.declared.Kind.{Kind}

@@ -28,7 +28,6 @@ use Rattle.window.specs.declared.Sums.{Sums}
 use Rattle.window.specs.Window.{pushed, windowOf, ValidWindow}
 use Rattle.rvc.specs.declared.Signal.{Signal}
 use Rattle.rvc.specs.declared.Signal.the-variants.{Filling as IsFilling, Unsettled as IsUnsettled, Steady as IsSteady, Changing as IsChanging}
-use Rattle.rvc.specs.declared.Phase.{Phase}
 use Rattle.rvc.specs.declared.Phase.the-variants.{Filling}
 use Rattle.rvc.specs.Signal.{steadyAfter, signalAfter, signalOf, ValidSignal}
 use Rattle.rvc.specs.Phase.{movedBy, phaseUnder, ValidPhase}
@@ -46,8 +45,8 @@ use Rattle.joint.specs.declared.JointSums.{JointSums}
 use Rattle.joint.specs.declared.JointTried.{JointTried}
 use Rattle.joint.specs.declared.Entering.{Entering}
 use Rattle.joint.specs.declared.Entered.{Entered}
-use Rattle.joint.specs.declared.Gone.{Gone}
-use Rattle.joint.specs.declared.Went.{Went}
+use Rattle.joint.specs.declared.OwnMoved.{OwnMoved}
+use Rattle.joint.specs.declared.AllMoved.{AllMoved}
 use Rattle.joint.specs.declared.Standings.{Standings}
 
 -- the three values; what is kept of one channel
@@ -126,8 +125,8 @@ enteringOf s v w ms y stands o =
     record { joining = j .joining; sums = j .sums; signal = ownSignal s v w (y .value) (o .signal) }
 
 -- the phase, under the joint signal
-abbrev pub goneBy : ℕ → Entering → Bool → Own → Gone
-goneBy n e isSteady o =
+abbrev pub ownMovedBy : ℕ → Entering → Bool → Own → OwnMoved
+ownMovedBy n e isSteady o =
     let m = movedBy n (e .joining) isSteady (o .phase) in
     record { own = record { signal = e .signal; phase = m .phase }; ended = m .ended }
 
@@ -144,13 +143,13 @@ enteredAt onC e = e .c
 abbrev pub EnteredSmall : Entered → Type 0
 EnteredSmall e = (c : Channel) → enteredAt c e .joining .leaving ≤ 524288
 
-abbrev pub wentBy : ℕ → Entered → Joint → Went
-wentBy n e j =
+abbrev pub allMovedBy : ℕ → Entered → Joint → AllMoved
+allMovedBy n e j =
     let b = enteredTrue e in
-    record { a = goneBy n (e .a) b (j .a); b = goneBy n (e .b) b (j .b); c = goneBy n (e .c) b (j .c) }
+    record { a = ownMovedBy n (e .a) b (j .a); b = ownMovedBy n (e .b) b (j .b); c = ownMovedBy n (e .c) b (j .c) }
 
 -- what is kept after value i, the records due at it, by kind, and the sums of the windows with it: of a change the worst channel's magnitudes
-abbrev pub afterFrom : ℕ → Standings → Went → Joint
+abbrev pub afterFrom : ℕ → Standings → AllMoved → Joint
 afterFrom i p w = record {
   count = i;
   dip = p .dip;
@@ -161,7 +160,7 @@ afterFrom i p w = record {
   c = w .c .own;
 }
 
-abbrev pub dueFrom : ℕ → Standings → Went → Joint → Due
+abbrev pub dueFrom : ℕ → Standings → AllMoved → Joint → Due
 dueFrom i p w j = record {
   dip = endedAt (kindNumber Dip) i (j .dip) (p .dip);
   swell = endedAt (kindNumber Swell) i (j .swell) (p .swell);
@@ -190,25 +189,27 @@ module _ (s : Settings) (x : Values) (j : Joint) (ws : Three (List ℕ)) (ms : L
   abbrev pub enteredOf : Bool → Entered
   enteredOf stands = record { a = enteringAt stands onA; b = enteringAt stands onB; c = enteringAt stands onC }
 
-  abbrev pub wentOf : Went
-  wentOf = wentBy (windowLength s) (enteredOf (standsAt (suc (j .count)) (standingsAfter .dip) (standingsAfter .swell))) j
+  abbrev pub allMovedOf : AllMoved
+  allMovedOf = allMovedBy (windowLength s) (enteredOf (standsAt (suc (j .count)) (standingsAfter .dip) (standingsAfter .swell))) j
 
   unfoldable pub jointAfter : Joint
-  jointAfter = afterFrom (suc (j .count)) standingsAfter wentOf
+  jointAfter = afterFrom (suc (j .count)) standingsAfter allMovedOf
 
   unfoldable pub jointDueBy : Due
-  jointDueBy = dueFrom (suc (j .count)) standingsAfter wentOf j
+  jointDueBy = dueFrom (suc (j .count)) standingsAfter allMovedOf j
 
   unfoldable pub jointDueAt : List Record
   jointDueAt = recordsOf jointDueBy
 
--- both, with the sums of the windows after it
+-- the sums of the windows
 abbrev pub jointSumsOf : Three (List ℕ) → List ℕ → JointSums
 jointSumsOf ws ms = record { a = sum (ws .a); b = sum (ws .b); c = sum (ws .c); marks = sum ms }
 
+-- each channel's window with its value
 abbrev pub pushedAll : ℕ → ℕ → Three (List ℕ) → Three ℕ → Three (List ℕ)
 pushedAll n v ws r = record { a = pushed n v (ws .a) (r .a); b = pushed n v (ws .b) (r .b); c = pushed n v (ws .c) (r .c) }
 
+-- what is kept and what is due, with the sums of the windows after it
 abbrev pub jointTriedBy : Settings → Values → Joint → Three (List ℕ) → List ℕ → JointTried
 jointTriedBy s x j ws ms =
     let n = windowLength s in

@@ -12,8 +12,8 @@ use Rattle.reading.specs.declared.Kind.{Kind}
 use Rattle.reading.specs.declared.Kind.the-variants.{Dip, Swell, Interruption}
 use Rattle.reading.specs.declared.Event.{Event}
 use Rattle.reading.specs.declared.Record.{Record}
-use Rattle.reading.specs.Values.{since, upTo}
-use Rattle.reading.specs.Clipping.{anyMarked, clippedFrom, eventClipped, recordOf}
+use Rattle.reading.specs.Values.{since}
+use Rattle.reading.specs.Clipping.{clippedFrom, recordOf}
 use Rattle.reading.specs.Thresholds.{kindNumber, magnitude}
 use Rattle.reading.specs.Changes.{windowSum, gap, Signal, signal, sumBefore, greatestDifference}
 use Rattle.reading.specs.Changes.Signal.{filling, unsettled, steady, changing}
@@ -43,8 +43,8 @@ use Rattle.joint.specs.declared.Values.{Values}
 use Rattle.joint.specs.declared.Joint.{Joint}
 use Rattle.joint.specs.declared.Entering.{Entering}
 use Rattle.joint.specs.declared.Entered.{Entered}
-use Rattle.joint.specs.declared.Gone.{Gone}
-use Rattle.joint.specs.Joint.{trueIn, worseEnded, enteringOf, goneBy, enteredTrue, enteredOf, wentBy, afterFrom, dueFrom, jointStepped, jointAfter, jointDueBy, jointDueAt}
+use Rattle.joint.specs.declared.OwnMoved.{OwnMoved}
+use Rattle.joint.specs.Joint.{trueIn, worseEnded, enteringOf, ownMovedBy, enteredTrue, enteredOf, allMovedBy, afterFrom, dueFrom, jointStepped, jointAfter, jointDueBy, jointDueAt}
 use Rattle.joint.specs.Joint.{jointStanding, ownOf, jointOf, windowsOf}
 
 -- a signal's truth, what the reading says of it, and how the joint one turns, in the code's terms
@@ -224,8 +224,8 @@ module _ (s : Settings) (r : Three ℕ) (older : List (Three ℕ)) (clipped : Bo
     valid : ValidSignal n (length own) (signalOf was)
     valid = rw same (valid-is n (length older) was (joint-valid s older))
 
-    abbrev gone : Bool → Gone
-    gone b = goneBy n (entering c) b (ownOf s c older ms)
+    abbrev gone : Bool → OwnMoved
+    gone b = ownMovedBy n (entering c) b (ownOf s c older ms)
 
     phase-is : (b : Bool) → gone b .own .phase ≡ phaseUnder s (channel c hist) now (from hist) (turned n i b was)
     phase-is b =
@@ -272,7 +272,7 @@ module _ (s : Settings) (r : Three ℕ) (older : List (Three ℕ)) (clipped : Bo
   pub joint-follows : jointAfter s x (jointOf s older ms) (windowsOf (windowLength s) older) (windowOf (windowLength s) ms) ≡ jointOf s (r ∷ older) (flag clipped ∷ ms)
   unfolding jointAfter
   joint-follows =
-      (λ j. afterFrom i (record { dip = steps Dip j; swell = steps Swell j; interruption = steps Interruption j }) (wentBy n (enteredBy (stands-is j)) before))
+      (λ j. afterFrom i (record { dip = steps Dip j; swell = steps Swell j; interruption = steps Interruption j }) (allMovedBy n (enteredBy (stands-is j)) before))
       ∙ (λ j. record {
         count = i;
         dip = jointStanding s Dip hist now;
@@ -287,7 +287,7 @@ module _ (s : Settings) (r : Three ℕ) (older : List (Three ℕ)) (clipped : Bo
       ≡ map (recordOf (flag clipped ∷ ms)) (jointDue s (r ∷ older))
   unfolding jointDueBy jointDueAt
   joint-due-follows =
-      (λ j. recordsOf (dueFrom i (record { dip = steps Dip j; swell = steps Swell j; interruption = steps Interruption j }) (wentBy n (enteredBy (stands-is j)) before) before))
+      (λ j. recordsOf (dueFrom i (record { dip = steps Dip j; swell = steps Swell j; interruption = steps Interruption j }) (allMovedBy n (enteredBy (stands-is j)) before) before))
       ∙ joins (jointThresholdDue s Dip hist) (jointThresholdDue s Swell hist ++ (jointThresholdDue s Interruption hist ++ jointChangeDue s hist)) (ended Dip)
       (joins (jointThresholdDue s Swell hist) (jointThresholdDue s Interruption hist ++ jointChangeDue s hist) (ended Swell)
       (joins (jointThresholdDue s Interruption hist) (jointChangeDue s hist) (ended Interruption) change-due))

@@ -32,11 +32,11 @@ use Rattle.joint.specs.declared.JointSums.{JointSums}
 use Rattle.joint.specs.declared.JointTried.{JointTried}
 use Rattle.joint.specs.declared.Entering.{Entering}
 use Rattle.joint.specs.declared.Entered.{Entered}
-use Rattle.joint.specs.declared.Gone.{Gone}
-use Rattle.joint.specs.declared.Went.{Went}
+use Rattle.joint.specs.declared.OwnMoved.{OwnMoved}
+use Rattle.joint.specs.declared.AllMoved.{AllMoved}
 use Rattle.joint.specs.declared.Standings.{Standings}
 use Rattle.joint.specs.Joint.{ownAt, markedAt, sumsAt, standingsBy, standingsAfter, enteringOf, enteringAt, enteredOf, enteredAt, enteredTrue, EnteredSmall}
-use Rattle.joint.specs.Joint.{goneBy, wentBy, wentOf, afterFrom, dueFrom, sumsFrom, jointAfter, jointDueBy, jointSumsOf, jointTriedBy}
+use Rattle.joint.specs.Joint.{ownMovedBy, allMovedBy, allMovedOf, afterFrom, dueFrom, sumsFrom, jointAfter, jointDueBy, jointSumsOf, jointTriedBy}
 use Rattle.joint.specs.Joint.{EnterReady, JointReady}
 
 -- the worst of three values is the worse of the first and of the worse of the others
@@ -74,10 +74,10 @@ module _ {s : Settings} {t : Scaled} {v : ℕ} {w ms : List ℕ} {a : Sums} {y :
         λ k. record { joining = J k .joining; sums = J k .sums; signal = A k }
 
 -- each channel goes on under the joint signal
-pub went-is : (n : ℕ) (e : Entered) (j : Joint) {steady : Bool} {x y z : Gone} →
-    steady ≡ enteredTrue e → x ≡ goneBy n (e .a) steady (j .a) → y ≡ goneBy n (e .b) steady (j .b) → z ≡ goneBy n (e .c) steady (j .c) →
-    _≡_ {A = Went} (record { a = x; b = y; c = z }) (wentBy n e j)
-went-is n e j steady-is x-is y-is z-is = rw (x-is, y-is, z-is, steady-is)
+pub moved-is : (n : ℕ) (e : Entered) (j : Joint) {steady : Bool} {x y z : OwnMoved} →
+    steady ≡ enteredTrue e → x ≡ ownMovedBy n (e .a) steady (j .a) → y ≡ ownMovedBy n (e .b) steady (j .b) → z ≡ ownMovedBy n (e .c) steady (j .c) →
+    _≡_ {A = AllMoved} (record { a = x; b = y; c = z }) (allMovedBy n e j)
+moved-is n e j steady-is x-is y-is z-is = rw (x-is, y-is, z-is, steady-is)
 
 -- the three, with the windows ws and the marks of the joint values before the values x
 module _ {s : Settings} {t : Scaled} {j : Joint} {ws : Three (List ℕ)} {ms : List ℕ} {a : JointSums} {x : Values} (ready : JointReady s t j ws ms a x) where
@@ -113,16 +113,16 @@ module _ {s : Settings} {t : Scaled} {j : Joint} {ws : Three (List ℕ)} {ms : L
   entered-small {stands} e-is c = rw (e-is, entered-at stands c) (leaving-le (windowLength s) (j .count) (at c ws) (ready .window-valid c))
 
   -- the whole step, from its parts
-  pub tried-is : {i n : ℕ} {stands : Bool} {p : Standings} {e : Entered} {w : Went} {after : Joint} {due : Due} {sums : JointSums} →
+  pub tried-is : {i n : ℕ} {stands : Bool} {p : Standings} {e : Entered} {w : AllMoved} {after : Joint} {due : Due} {sums : JointSums} →
       i ≡ suc (j .count) → p ≡ standingsBy t i x j → stands ≡ standsAt i (p .dip) (p .swell) → e ≡ enteredOf s x j ws ms stands → n ≡ windowLength s →
-      w ≡ wentBy n e j → due ≡ dueFrom i p w j → after ≡ afterFrom i p w → sums ≡ sumsFrom e →
+      w ≡ allMovedBy n e j → due ≡ dueFrom i p w j → after ≡ afterFrom i p w → sums ≡ sumsFrom e →
       _≡_ {A = JointTried} (record { after = after; due = due; sums = sums }) (jointTriedBy s x j ws ms)
   unfolding jointAfter jointDueBy
   tried-is i-is p-is stands-is e-is n-is w-is due-is after-is sums-is =
       let P : _ ≡ standingsAfter s x j ws ms = p-is ∙ (λ k. standingsBy (ready .scaled-is k) (i-is k) x j) in
       let S = stands-is ∙ (λ k. standsAt (i-is k) (P k .dip) (P k .swell)) in
       let E = e-is ∙ (λ k. enteredOf s x j ws ms (S k)) in
-      let W : _ ≡ wentOf s x j ws ms = w-is ∙ (λ k. wentBy (n-is k) (E k) j) in
+      let W : _ ≡ allMovedOf s x j ws ms = w-is ∙ (λ k. allMovedBy (n-is k) (E k) j) in
       let A = after-is ∙ (λ k. afterFrom (i-is k) (P k) (W k)) in
       let D = due-is ∙ (λ k. dueFrom (i-is k) (P k) (W k) j) in
       let U = sums-is ∙ (λ k. sumsFrom (E k)) in

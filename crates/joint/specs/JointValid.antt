@@ -33,7 +33,7 @@ use Rattle.three_reading.specs.JointEvents.{jointBegins, jointEnds, worst}
 use Rattle.joint.specs.declared.Values.{Values}
 use Rattle.joint.specs.declared.Joint.{Joint}
 use Rattle.joint.specs.declared.Entered.{Entered}
-use Rattle.joint.specs.Joint.{sizesOf, ownAt, Small3, trueIn, ownSignal, goneBy, enteredTrue, jointStepped, standingsAfter, enteringAt, enteredOf}
+use Rattle.joint.specs.Joint.{sizesOf, ownAt, Small3, trueIn, ownSignal, ownMovedBy, enteredTrue, jointStepped, standingsAfter, enteringAt, enteredOf}
 use Rattle.joint.specs.Joint.{jointAfter, jointDueBy, jointDueAt, noOwn, noValues, ValidJoint}
 
 -- a signal that is true has a full window
@@ -82,7 +82,7 @@ module _ (s : Settings) (x : Values) (j : Joint) (ws : Three (List ℕ)) (ms : L
     full : enteredTrue entered ≡ true → n ≤ suc v
     full e = full-if n (suc v) (entered .a .signal) (signal-kept onA) (and-left (trueIn (entered .a .signal)) (trueIn (entered .b .signal) && trueIn (entered .c .signal)) e)
 
-    own-after : (c : Channel) → ownAt c (jointAfter s x j ws ms) ≡ goneBy n (enteringAt s x j ws ms stands c) (enteredTrue entered) (ownAt c j) .own
+    own-after : (c : Channel) → ownAt c (jointAfter s x j ws ms) ≡ ownMovedBy n (enteringAt s x j ws ms stands c) (enteredTrue entered) (ownAt c j) .own
     unfolding jointAfter
     own-after onA = refl
     own-after onB = refl

@@ -15,12 +15,12 @@ use threshold::Ended;
 use threshold::Standing;
 use window::Sums;
 ghost use mathlib.Core.Path.{_≡_};
-ghost use Prim.Native.Nat.{_≤_, max};
+ghost use Prim.Native.Nat.{_≤_};
 ghost use Rattle.three_reading.specs.Three.Channel.{onA, onB, onC};
 ghost use Rattle.three_reading.specs.JointEvents.{worst as worstOf};
 ghost use Rattle.joint.specs.Joint.{Small3, threeOf, sizesOf, markedAt, sumsAt, jointBeginsAt, jointEndsAt, jointSteppedAt, trueIn, worseRecord, worseEnded};
-ghost use Rattle.joint.specs.Joint.{noOwn, noValues, enteringOf, goneBy, standingsBy, jointTriedBy, EnterReady, JointReady};
-ghost use Rattle.joint.specs.Joint.{enteredOf, enteredTrue, EnteredSmall, wentBy, dueFrom, afterFrom, sumsFrom};
+ghost use Rattle.joint.specs.Joint.{noOwn, noValues, enteringOf, ownMovedBy, standingsBy, jointTriedBy, EnterReady, JointReady};
+ghost use Rattle.joint.specs.Joint.{enteredOf, enteredTrue, EnteredSmall, allMovedBy, dueFrom, afterFrom, sumsFrom};
 
 // The values of three channels, and whether one of them is clipped.
 pub struct Values {
@@ -30,7 +30,8 @@ pub struct Values {
     pub clipped: bool,
 }
 
-// What is kept of one channel's values beside its window: its phase under the joint signal, and its own signal.
+// What is kept of one channel's values beside its window: its phase under the joint signal, and its own signal. Here and below the order of the fields is for
+// speed: what lies behind a tag or a bool is copied by pieces.
 pub struct Own {
     pub phase: Phase,
     pub signal: Signal,
@@ -144,16 +145,16 @@ struct Entered {
 }
 
 // What a value leaves of one channel, and the record of a change that ends with it, as that channel has it.
-struct Gone {
+struct OwnMoved {
     own: Own,
     ended: Ended,
 }
 
 // The same of each channel.
-struct Went {
-    a: Gone,
-    b: Gone,
-    c: Gone,
+struct AllMoved {
+    a: OwnMoved,
+    b: OwnMoved,
+    c: OwnMoved,
 }
 
 // The worst of three values: the lowest of a dip or an interruption, the highest of a swell.
@@ -209,6 +210,7 @@ fn step(standing: Standing, kind: Kind, level: Threshold, i: u64, values: Values
     )
 }
 
+// Whether an own signal, as a value leaves it, is true.
 fn is_true(signal: Signal) -> bool
     ensures { λ b. ⌜ b ≡ trueIn signal ⌝ }
 {
@@ -218,12 +220,6 @@ fn is_true(signal: Signal) -> bool
         Signal::Steady => true,
         Signal::Changing(_) => false,
     }
-}
-
-fn higher(a: u64, b: u64) -> u64
-    ensures { λ r. ⌜ r ≡ max a b ⌝ }
-{
-    if a < b { b } else { a }
 }
 
 // The joint signal: all three own ones are true.
@@ -250,13 +246,14 @@ fn worse_record(x: Record, y: Record) -> Record
             kind: one.kind,
             start: one.start,
             duration: one.duration,
-            first: higher(one.first, other.first),
-            second: higher(one.second, other.second),
+            first: threshold::higher(one.first, other.first),
+            second: threshold::higher(one.second, other.second),
         },
         clipped: x.clipped | y.clipped,
     }
 }
 
+// The phases of all channels stand under one signal and see one first stand: they end together or not at all.
 fn worse_ended(x: Ended, y: Ended) -> Ended
     ensures { λ r. ⌜ r ≡ worseEnded x y ⌝ }
 {
@@ -325,9 +322,9 @@ impl Own {
     }
 
     // The channel's phase goes on under the joint signal.
-    fn go_on(self, window_length: u64, entering: Entering, steady: bool) -> Gone
+    fn go_on(self, window_length: u64, entering: Entering, steady: bool) -> OwnMoved
         requires { ⌜ («window_length» ≤ 120) × (entering .joining .leaving ≤ 524288) ⌝ }
-        ensures { λ r. ⌜ r ≡ goneBy «window_length» entering steady self ⌝ }
+        ensures { λ r. ⌜ r ≡ ownMovedBy «window_length» entering steady self ⌝ }
     {
         let signal = entering.signal;
         let joining = entering.joining;
@@ -335,7 +332,7 @@ impl Own {
         let moved = phase.moved(window_length, joining, steady);
         let ended = moved.ended;
         let after = moved.phase;
-        Gone {
+        OwnMoved {
             own: Own {
                 signal,
                 phase: after,
@@ -346,15 +343,15 @@ impl Own {
 }
 
 // What is kept after value i.
-fn after_of(i: u64, standings: Standings, went: Went) -> Joint
-    ensures { λ r. ⌜ r ≡ afterFrom i standings went ⌝ }
+fn after_of(i: u64, standings: Standings, moved: AllMoved) -> Joint
+    ensures { λ r. ⌜ r ≡ afterFrom i standings moved ⌝ }
 {
     let dip = standings.dip;
     let swell = standings.swell;
     let interruption = standings.interruption;
-    let a = went.a;
-    let b = went.b;
-    let c = went.c;
+    let a = moved.a;
+    let b = moved.b;
+    let c = moved.c;
     let own_a = a.own;
     let own_b = b.own;
     let own_c = c.own;
@@ -369,7 +366,7 @@ fn after_of(i: u64, standings: Standings, went: Went) -> Joint
     }
 }
 
-// The sums of the windows with a value of each channel.
+// The sums of the windows with a value of each channel. The marks are joint, so any channel's sum of them is the one.
 fn sums_of(entered: Entered) -> JointSums
     ensures { λ r. ⌜ r ≡ sumsFrom entered ⌝ }
 {
@@ -476,9 +473,9 @@ impl Joint {
     }
 
     // Each channel's phase goes on under the joint signal.
-    fn go_on(self, window_length: u64, entered: Entered) -> Went
+    fn go_on(self, window_length: u64, entered: Entered) -> AllMoved
         requires { ⌜ («window_length» ≤ 120) × EnteredSmall entered ⌝ }
-        ensures { λ r. ⌜ r ≡ wentBy «window_length» entered self ⌝ }
+        ensures { λ r. ⌜ r ≡ allMovedBy «window_length» entered self ⌝ }
     {
         let steady = all_true(entered);
         let own_a = self.a;
@@ -487,7 +484,7 @@ impl Joint {
         let enter_a = entered.a;
         let enter_b = entered.b;
         let enter_c = entered.c;
-        Went {
+        AllMoved {
             a: own_a.go_on(window_length, enter_a, steady),
             b: own_b.go_on(window_length, enter_b, steady),
             c: own_c.go_on(window_length, enter_c, steady),
@@ -495,15 +492,15 @@ impl Joint {
     }
 
     // The records due at value i, by kind.
-    fn due(self, i: u64, standings: Standings, went: Went) -> Due
-        ensures { λ r. ⌜ r ≡ dueFrom i standings went self ⌝ }
+    fn due(self, i: u64, standings: Standings, moved: AllMoved) -> Due
+        ensures { λ r. ⌜ r ≡ dueFrom i standings moved self ⌝ }
     {
         let dip = standings.dip;
         let swell = standings.swell;
         let interruption = standings.interruption;
-        let a = went.a;
-        let b = went.b;
-        let c = went.c;
+        let a = moved.a;
+        let b = moved.b;
+        let c = moved.c;
         let ended_a = a.ended;
         let ended_b = b.ended;
         let ended_c = c.ended;
@@ -537,9 +534,9 @@ impl Joint {
         let swell = standings.swell;
         let stands = detection::stands_at(i, dip, swell);
         let entered = self.enter(settings, scaled, a, b, c, marks, sums, values, stands);
-        let went = self.go_on(settings.window_length(), entered);
-        let due = self.due(i, standings, went);
-        let after = after_of(i, standings, went);
+        let moved = self.go_on(settings.window_length(), entered);
+        let due = self.due(i, standings, moved);
+        let after = after_of(i, standings, moved);
         let sums = sums_of(entered);
         JointTried { after, due, sums }
     }

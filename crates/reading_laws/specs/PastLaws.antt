@@ -8,7 +8,7 @@ use lib.IntN.{ℤ}
 use Rattle.settings.specs.declared.Settings.{Settings}
 use Rattle.reading.specs.declared.Event.{Event}
 use Rattle.reading.specs.declared.Record.{Record}
-use Rattle.reading.specs.Values.{valueCount, history}
+use Rattle.reading.specs.Values.{history}
 use Rattle.reading.specs.Clipping.{marks, recordOf}
 use Rattle.reading.specs.Records.{due, events, recordsAt}
 use Rattle.reading.specs.Feed.{dueAfter}

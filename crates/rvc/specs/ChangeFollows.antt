@@ -13,7 +13,7 @@ use Rattle.numbers.specs.Notation.{_<ᵇ_, _≡ᵇ_, if_then_else_, flag}
 use Rattle.settings.specs.Settings.{windowLength}
 use Rattle.settings.specs.SettingsLaws.{windowLength-some, windowLength-most}
 use Rattle.reading.specs.Values.{since, upTo}
-use Rattle.reading.specs.Clipping.{anyMarked, clippedFrom, eventClipped, recordOf}
+use Rattle.reading.specs.Clipping.{anyMarked, clippedFrom, recordOf}
 use Rattle.reading.specs.Changes.{windowSum, gap, firstStand, sumBefore, farthest, greatestDifference, changeEvent}
 use Rattle.threshold.specs.declared.Ended.the-variants.{Nothing, Over}
 use Rattle.threshold.specs.Standing.{listOf}

@@ -1,9 +1,8 @@
 -- The code's step under the phase's own signal is the step of the phase; and a phase of a history has the signal that it stands under.
 use mathlib.Core.Path.{_≡_, refl, ap}
-use mathlib.Core.Bool.{Bool, true, false}
+use mathlib.Core.Bool.{Bool}
 use mathlib.Core.List.{List}
 use Prim.Native.Nat.{ℕ, _≤_}
-use Rattle.numbers.specs.Notation.{_<ᵇ_, if_then_else_}
 use Rattle.settings.specs.declared.Settings.{Settings}
 use Rattle.settings.specs.Settings.{windowLength, scaledOf, ValidSettings}
 use Rattle.reading.specs.Changes.{Signal}
@@ -13,7 +12,7 @@ use Rattle.window.specs.WindowValid.{leaving-le}
 use Rattle.rvc.specs.declared.Joining.{Joining}
 use Rattle.rvc.specs.declared.Phase.{Phase}
 use Rattle.rvc.specs.declared.Phase.the-variants.{Filling, Unsettled, Steady, Changing}
-use Rattle.rvc.specs.Signal.{signalAfter, signalOf, ValidSignal}
+use Rattle.rvc.specs.Signal.{signalOf, ValidSignal}
 use Rattle.rvc.specs.SignalLaws.{test-ready, steady-is}
 use Rattle.rvc.specs.Phase.{signalIn, movedBy, movedOn, joiningOf, movedAfter, phaseUnder, Joins, ValidPhase}
 use Rattle.rvc.specs.PhaseRuleLaws.{Allowed, valid-allowed}

@@ -1,7 +1,7 @@
 -- The signal follows the history of its channel: it turns by its truth alone, and from the code's signal and window of the older values its truth at a value and
 -- what it is after it are those of the reading.
 use mathlib.Core.Path.{_≡_, refl, sym, _∙_, ap, subst}
-use mathlib.Core.Bool.{Bool, true, false, true≢false}
+use mathlib.Core.Bool.{Bool, true, false}
 use mathlib.Core.List.{List, [], _∷_}
 use Prim.Native.Nat.{ℕ, suc, _+_, _-_, _≤_, _<_}
 use native.Mathlib.Omega.{arith}
@@ -13,7 +13,7 @@ use Rattle.settings.specs.Settings.{windowLength}
 use Rattle.settings.specs.SettingsLaws.{windowLength-some, windowLength-most}
 use Rattle.reading.specs.Changes.{calm, Signal, next, signal}
 use Rattle.reading.specs.Changes.Signal.{filling, unsettled, steady, changing}
-use Rattle.reading_laws.specs.Sentences.{truth, isSteady}
+use Rattle.reading_laws.specs.Sentences.{truth}
 use Rattle.window.specs.Window.{windowOf}
 use Rattle.window.specs.WindowFollows.{window-follows, calm-windowOf}
 use Rattle.rvc.specs.Signal.{limitIn, heldAt, steadyAfter, signalAfter, signalOf, trueAt, turned, ValidSignal}

@@ -18,17 +18,14 @@ use Rattle.reading.specs.Clipping.{valueClipped, marks, recordOf}
 use Rattle.reading.specs.Thresholds.{begins, ends, standsSince, magnitude, kindNumber, thresholdDue}
 use Rattle.reading.specs.Changes.{calm, windowSum, gap, Signal, next, signal, firstStand, sumBefore, greatestDifference, changeEvent, changeOver, changeDue}
 use Rattle.reading.specs.Changes.Signal.{filling, unsettled, steady, changing}
-use Rattle.reading.specs.Records.{due, events, recordsAt}
-use Rattle.reading.specs.Image.{phaseNumber}
+use Rattle.reading.specs.Records.{due, recordsAt}
 use Rattle.reading.specs.Feed.{dueAfter, records}
-use Rattle.reading.specs.Engineer.{readings}
 use Rattle.three_reading.specs.Three.{each, anyOf, allOf, Channel, at, channel, channels, jointHistory, jointMarks}
 use Rattle.three_reading.specs.Three.Channel.{onA, onB, onC}
 use Rattle.three_reading.specs.JointEvents.{jointBegins, jointEnds, jointSince, worst, jointThresholdDue}
 use Rattle.three_reading.specs.JointChanges.{isTrue, jointNext, signals, jointFirstStand, greatestOf, jointChangeEvent, jointChangeOver, jointChangeDue}
-use Rattle.three_reading.specs.JointRecords.{jointDue, jointEvents, jointRecordsAt}
+use Rattle.three_reading.specs.JointRecords.{jointDue, jointRecordsAt}
 use Rattle.three_reading.specs.ThreeFeed.{jointDueAfter, jointRecords}
-use Rattle.three_reading.specs.ThreeEngineer.{channelReadings, jointReadings}
 use Rattle.three_laws.specs.ThreeSentences.{same, equally}
 use Rattle.three_laws.specs.ChannelLaws.{three-same, at-each-channel}
 use Rattle.three_laws.specs.SignalsLaws.{own-signal}
@@ -188,31 +185,6 @@ module _ (s : Settings) where
 
   due-same : (hist : List ℕ) → jointDue s (equally hist) ≡ due s hist
   due-same hist = λ i. threshold-same Dip hist i ++ (threshold-same Swell hist i ++ (threshold-same Interruption hist i ++ change-due-same hist i))
-
-  pub events-same : (hist : List ℕ) → jointEvents s (equally hist) ≡ events s hist
-  events-same [] = refl
-  events-same (r ∷ older) = ap₂ _++_ (events-same older) (due-same (r ∷ older))
-
-  -- what look tells: each channel's readings are the one's, and so are the phase and the events that stand
-  pub readings-same : (hist : List ℕ)
-      → jointReadings s (equally hist) ≡ (let one = readings s hist in let own = channelReadings s hist in record {
-        a = own;
-        b = own;
-        c = own;
-        phase = one .phase;
-        dip = one .dip;
-        swell = one .swell;
-        interruption = one .interruption;
-      })
-  readings-same hist = λ i. record {
-    a = channelReadings s (channel-same onA hist i);
-    b = channelReadings s (channel-same onB hist i);
-    c = channelReadings s (channel-same onC hist i);
-    phase = phaseNumber (joint-same hist i);
-    dip = 0 <ᵇ since-same Dip hist i;
-    swell = 0 <ᵇ since-same Swell hist i;
-    interruption = 0 <ᵇ since-same Interruption hist i;
-  }
 
   -- and so with recordings
   module _ (rec : List ℤ) where

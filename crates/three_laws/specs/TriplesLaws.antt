@@ -6,10 +6,10 @@ use native.Mathlib.Omega.{arith}
 use lib.ListN.{length, take, drop}
 use lib.IntN.{ℤ}
 use Rattle.reading.specs.Values.{Sample, Samples}
-use Rattle.reading_laws.specs.RecordingsLaws.{samples-append, samples-take, samples-drop}
+use Rattle.reading_laws.specs.RecordingsLaws.{samples-append, samples-take}
 use Rattle.three_reading.specs.Three.{Three, triplesOf, Channel, at, channel}
 use Rattle.three_reading.specs.Three.Channel.{onA, onB, onC}
-use Rattle.three_laws.specs.ChannelLaws.{channel-append, channel-take, channel-drop}
+use Rattle.three_laws.specs.ChannelLaws.{channel-append, channel-take}
 
 pub length-triples : (block : List ℤ) → length (triplesOf block) ≡ length block / 3
 length-triples [] = refl

@@ -50,7 +50,7 @@ fn lower(a: u64, b: u64) -> u64
     if a < b { a } else { b }
 }
 
-fn higher(a: u64, b: u64) -> u64
+pub fn higher(a: u64, b: u64) -> u64
     ensures { λ r. ⌜ r ≡ max a b ⌝ }
 {
     if a < b { b } else { a }

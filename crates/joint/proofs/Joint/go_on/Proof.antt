@@ -1,7 +1,7 @@
 -- Each channel goes on under the joint signal.
 use borrow.Author.Needs.{needs}
 use Rattle.three_reading.specs.Three.Channel.{onA, onB, onC}
-use Rattle.joint.specs.JointLaws.{went-is}
+use Rattle.joint.specs.JointLaws.{moved-is}
 use Rattle.joint.proofs.Joint.go_on.Statement.{statement}
 use Rattle.joint.proofs.Joint.go_on.Tie as tie
 
@@ -21,7 +21,7 @@ returns : tie.Need-returns
 returns c =
     let steady = c .before .before .before .before .before .before .before .before .before in
     let a = steady .before .args in
-    went-is (a .window-length) (a .entered) (a .self) (steady .all-true .ensures)
+    moved-is (a .window-length) (a .entered) (a .self) (steady .all-true .ensures)
     (c .before .before .go-on .ensures) (c .before .go-on2 .ensures) (c .go-on3 .ensures)
 
 pub go-on-spec : {M : Type 1} → statement M

@@ -36,12 +36,12 @@ sums-of-requires c κs = search needs
 
 returns : tie.Need-returns
 returns c =
-    let went = c .before .before .before in
-    let entered = went .before .before in
+    let moved = c .before .before .before in
+    let entered = moved .before .before in
     let standings = entered .before .before .before .before in
     let start = standings .before .before .before .before .before .before in
     tried-is (start .pre) (add-one (start .args .self .count)) (standings .standings .ensures) (entered .before .stands-at .ensures) (entered .enter .ensures)
-    (went .before .window-length .ensures .0) (went .go-on .ensures) (c .before .before .due .ensures) (c .before .after-of .ensures) (c .sums-of .ensures)
+    (moved .before .window-length .ensures .0) (moved .go-on .ensures) (c .before .before .due .ensures) (c .before .after-of .ensures) (c .sums-of .ensures)
 
 pub try-values-spec : {M : Type 1} → statement M
 try-values-spec =
