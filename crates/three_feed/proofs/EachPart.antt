@@ -16,7 +16,8 @@ use Rattle.three_state.specs.declared.Gatherers.{Gatherers}
 use Rattle.three_state.specs.declared.Parts.{Parts}
 use Rattle.three_state.specs.ThreeState.{gathererAt}
 use Rattle.three_state.specs.ThreeStep.{partsOf, partAt}
-use Rattle.three_feed.specs.Feed.{SquaresFit, RoomFor}
+use Rattle.lanes.specs.Lanes.{SquaresFit, PartsAre}
+use Rattle.three_feed.specs.Feed.{RoomFor}
 
 part-at : (c : Channel) (xs : List (Three ℤ)) → partAt c (partsOf xs) ≡ partOf (channel c xs)
 part-at onA xs = refl
@@ -33,7 +34,7 @@ parts-fit m g xs small room c =
     rw (part-at c xs) (partOf-fits m (gathererAt c g) (channel c xs) (omega (arith, small c, length-channel c xs)) (omega (arith, room c, length-channel c xs)))
 
 pub part-joins : (g : Gatherers) (block : List ℤ) (p : Parts) → RoomFor g (length block / 3) →
-    (p ≡ partsOf (triplesOf block)) × SquaresFit (triplesOf block) → (c : Channel) →
+    PartsAre (triplesOf block) p → (c : Channel) →
     (gathererAt c g .count + partAt c p .count < 2 ^ 32) × (gathererAt c g .sum + partAt c p .squares < 2 ^ 64)
 part-joins g block p room are c =
     let own : partAt c p ≡ partOf (channel c (triplesOf block)) = ap (partAt c) (are .0) ∙ part-at c (triplesOf block) in

@@ -1,4 +1,3 @@
-pub mod Laying
 pub mod EachPart
 pub mod HalfEnds
 pub mod Walking

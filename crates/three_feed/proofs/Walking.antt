@@ -33,9 +33,10 @@ use Rattle.three_state.specs.ThreeStep.{partsOf, partAt, withHalves, threePasse
 use Rattle.three_state.specs.ThreeStepLaws.{threeCuts}
 use Rattle.three_state.specs.ThreeStepValid.{threePart-valid, threeHalf-valid}
 use Rattle.three_state.specs.ThreeFed.{threeFedWith}
+use Rattle.lanes.specs.Lanes.{SquaresFit, PartsAre}
 use Rattle.three_feed.specs.declared.Half.{Half}
 use Rattle.three_feed.specs.declared.ThreeWalked.{ThreeWalked}
-use Rattle.three_feed.specs.Feed.{HalfReady, HalfOutcome, halfBy, halfOutcome, gatheredBy, halfOf, walkedOf, walkedWith, SquaresFit, RoomFor}
+use Rattle.three_feed.specs.Feed.{HalfReady, HalfOutcome, halfBy, halfOutcome, gatheredBy, halfOf, walkedOf, walkedWith, RoomFor}
 use Rattle.three_feed.proofs.EachPart.{count-at, parts-fit}
 
 -- the triples of a part of a block, as the code takes it: up to triple e, and all behind triple a
@@ -57,12 +58,9 @@ half-refused : (y : ℕ) (o : HalfOutcome) (st : ThreeState) (p : Parts) (lent :
 half-refused zero o st p lent e some = absurd (omega (arith, ap (λ (k : HalfOutcome). k .why) e))
 half-refused (suc y) o st p lent e some = (ap (λ (k : HalfOutcome). k .why) e, ap (λ (k : HalfOutcome). k .after) e, ap (λ (k : HalfOutcome). k .bytes) e)
 
--- what `cut_of`, `parts_of`, `end_walk` and `walk` give, and what a walk has of the lanes
+-- what `cut_of`, `end_walk` and `walk` give, and what a walk has of the lanes
 abbrev CutIs : Settings → Gatherers → List (Three ℤ) → Share → Type 0
 CutIs s g xs share = share ≡ cut (s .samples) (g .a) (channel onA xs)
-
-abbrev PartsAre : List (Three ℤ) → Parts → Type 0
-PartsAre xs q = (q ≡ partsOf xs) × SquaresFit xs
 
 abbrev WalkEnds : Gatherers → Joint → List (Three ℤ) → ℕ → ℕ → ℕ → ThreeWalked → Type 0
 WalkEnds g j xs taken written why last = (last ≡ walkedWith g j xs taken written why) × SquaresFit xs

@@ -12,8 +12,8 @@ use Rattle.reading.specs.Values.{rms}
 use Rattle.reading.specs.Calls.{Outcome}
 use Rattle.reading.specs.Records.{recordBytes}
 use Rattle.reading.specs.Engineer.{over, room}
-use Rattle.rms.specs.Gather.{partOf, PartFits}
-use Rattle.three_reading.specs.Three.{Three, anyOf, Channel, at, channel}
+use Rattle.rms.specs.Gather.{PartFits}
+use Rattle.three_reading.specs.Three.{Three, anyOf, Channel, at}
 use Rattle.three_reading.specs.Three.Channel.{onA, onB, onC}
 use Rattle.joint.specs.declared.Joint.{Joint}
 use Rattle.joint.specs.declared.JointSums.{JointSums}
@@ -74,10 +74,6 @@ walkedOf s r ws ms out = record { after = threeWith s (r .gatherers) (r .joint) 
 
 abbrev pub walkedWith : Gatherers → Joint → List (Three ℤ) → ℕ → ℕ → ℕ → ThreeWalked
 walkedWith g j xs taken written why = record { gatherers = withParts g (partsOf xs); joint = j; told = record { taken = taken; written = written; why = why } }
-
--- samples of one channel are within 16 bits
-abbrev pub SquaresFit : List (Three ℤ) → Type 0
-SquaresFit xs = (c : Channel) → partOf (channel c xs) .squares ≤ length xs * 2 ^ 30
 
 -- what the end of a walk needs of the gatherers, for as many triples more
 abbrev pub RoomFor : Gatherers → ℕ → Type 0

@@ -1,3 +1,1 @@
 pub mod Feed
-pub mod Lanes
-pub mod LanesLaws

@@ -18,19 +18,19 @@ with-part-requires : tie.Need-with-part-requires
 with-part-requires c κs =
     let at-parts = c .before .before .before .before .before .before in
     let start = at-parts .before .before .before .before in
-    part-joins (start .args .gatherers) (start .args .block .now) (at-parts .parts-of .result) (start .pre .1) (at-parts .parts-of .ensures) onA
+    part-joins (start .args .gatherers) (start .args .block .now) (at-parts .parts-of .result) (start .pre .1) (at-parts .parts-of .ensures .0) onA
 
 with-part-requires-2 : tie.Need-with-part-requires-2
 with-part-requires-2 c κs =
     let at-parts = c .before .before .before .before .before .before .before in
     let start = at-parts .before .before .before .before in
-    part-joins (start .args .gatherers) (start .args .block .now) (at-parts .parts-of .result) (start .pre .1) (at-parts .parts-of .ensures) onB
+    part-joins (start .args .gatherers) (start .args .block .now) (at-parts .parts-of .result) (start .pre .1) (at-parts .parts-of .ensures .0) onB
 
 with-part-requires-3 : tie.Need-with-part-requires-3
 with-part-requires-3 c κs =
     let at-parts = c .before .before .before .before .before .before .before .before in
     let start = at-parts .before .before .before .before in
-    part-joins (start .args .gatherers) (start .args .block .now) (at-parts .parts-of .result) (start .pre .1) (at-parts .parts-of .ensures) onC
+    part-joins (start .args .gatherers) (start .args .block .now) (at-parts .parts-of .result) (start .pre .1) (at-parts .parts-of .ensures .0) onC
 
 same-length : tie.Need-same-length
 same-length c = search needs
@@ -48,7 +48,7 @@ returns c =
     let first = second .before in
     let at-parts = first .before .before .before .before .before .before .before in
     let a = at-parts .before .before .before .before .args in
-    let are = at-parts .parts-of .ensures in
+    let are = at-parts .parts-of .ensures .0 in
     let p = first .with-part .ensures ∙ ap (λ (k : Parts). withPart (a .gatherers .a) (k .a)) (are .0) in
     let q = second .with-part2 .ensures ∙ ap (λ (k : Parts). withPart (a .gatherers .b) (k .b)) (are .0) in
     let r = third .with-part3 .ensures ∙ ap (λ (k : Parts). withPart (a .gatherers .c) (k .c)) (are .0) in (

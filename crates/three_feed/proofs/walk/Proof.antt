@@ -159,7 +159,7 @@ complete-requires c κs =
     let tested = at-parts .before .before .before .before .before .before in
     let turn = tested .before in
     let at-scaled = turn .before .before .before .before .before .before .before .before .before .before .before in
-    complete-ready (turn .loop .inv) (tested .loop-test .taken) (at-parts .parts-of .ensures) (at-scaled .scaled .result) (at-scaled .scaled .ensures)
+    complete-ready (turn .loop .inv) (tested .loop-test .taken) (at-parts .parts-of .ensures .0) (at-scaled .scaled .result) (at-scaled .scaled .ensures)
 
 sub-taken : tie.Need-sub-taken Inv-loop μ-loop
 sub-taken c =
@@ -296,7 +296,7 @@ returns c =
     let at-parts = at-complete .before .before .before .before .before .before .before .before .before in
     let tested = at-parts .before .before .before .before .before .before in
     let turn = tested .before in
-    walk-stops (turn .loop .inv) (tested .loop-test .taken) (at-parts .parts-of .ensures) (at-complete .complete .ensures) (first .if1 .taken)
+    walk-stops (turn .loop .inv) (tested .loop-test .taken) (at-parts .parts-of .ensures .0) (at-complete .complete .ensures) (first .if1 .taken)
     (at-end .end-walk .result) (at-end .end-walk .ensures)
 
 halves-of-requires : tie.Need-halves-of-requires Inv-loop μ-loop
@@ -307,7 +307,7 @@ halves-of-requires c κs =
     let turn = tested .before in
     let at-scaled = turn .before .before .before .before .before .before .before .before .before .before .before in
     sums-fit
-    (complete-ready (turn .loop .inv) (tested .loop-test .taken) (at-parts .parts-of .ensures) (at-scaled .scaled .result) (at-scaled .scaled .ensures))
+    (complete-ready (turn .loop .inv) (tested .loop-test .taken) (at-parts .parts-of .ensures .0) (at-scaled .scaled .result) (at-scaled .scaled .ensures))
 
 add-written : tie.Need-add-written Inv-loop μ-loop
 add-written c =
@@ -321,7 +321,7 @@ add-written c =
     let start = at-scaled .before .before .before .before .before .before in
     let l = turn .loop in
     let half = at-complete .complete in
-    let fits = taken-fits (turn .loop .inv) (tested .loop-test .taken) (at-parts .parts-of .ensures) (half .ensures)
+    let fits = taken-fits (turn .loop .inv) (tested .loop-test .taken) (at-parts .parts-of .ensures .0) (half .ensures)
     (omega (arith, first .if1 .left)) (at-halves .halves-of .ensures) in
     let h : l .written + half .result .written < 2 ^ 64 = omega (arith, fits, start .good) in
     record { fits = h }
@@ -365,7 +365,7 @@ cut-of-requires-2 c κs =
     let tested = at-parts .before .before .before .before .before .before in
     let turn = tested .before in
     let half = at-complete .complete in
-    taken-count (turn .loop .inv) (tested .loop-test .taken) (at-parts .parts-of .ensures) (half .ensures)
+    taken-count (turn .loop .inv) (tested .loop-test .taken) (at-parts .parts-of .ensures .0) (half .ensures)
     (omega (arith, first .if1 .left)) (at-halves .halves-of .ensures)
 
 loop-less : tie.Need-loop-less Inv-loop μ-loop
@@ -388,7 +388,7 @@ loop-again c =
     let half = at-complete .complete in
     let p = at-parts .parts-of .kept in
     let long = turn .loop .inv .lanes-long in
-    walk-turns (turn .loop .inv) (tested .loop-test .taken) (at-parts .parts-of .ensures) (half .ensures)
+    walk-turns (turn .loop .inv) (tested .loop-test .taken) (at-parts .parts-of .ensures .0) (half .ensures)
     (omega (arith, first .if1 .left)) (at-halves .halves-of .ensures)
     (at-cut .cut-of2 .result) _ (at-cut .cut-of2 .ensures) (three-long _ (p .1 .0 ∙ long onA) (p .1 .1 .0 ∙ long onB) (p .1 .1 .1 .0 ∙ long onC))
     (half .kept .1 .1 .1 .1 .1 .1 .1 .1 .1 .1 .0)

@@ -11,12 +11,13 @@ use borrow.Author.Tests.{lt-ltb}
 use Rattle.numbers.specs.Notation.{_<ᵇ_, flag}
 use Rattle.reading.specs.Values.{square, squares}
 use Rattle.reading.specs.Clipping.{clipped, anyClipped}
+use Rattle.rms.specs.declared.Part.{Part}
 use Rattle.rms.specs.Gather.{partOf}
 use Rattle.three_reading.specs.Three.{Three, triplesOf, Channel, at, channel}
 use Rattle.three_reading.specs.Three.Channel.{onA, onB, onC}
 use Rattle.three_laws.specs.ChannelLaws.{length-channel, channel-append}
 use Rattle.three_laws.specs.TriplesLaws.{length-triples, triples-take, triples-drop}
-use Rattle.three_feed.specs.Lanes.{inTurn, later, laneOf, laneIn}
+use Rattle.lanes.specs.Lanes.{inTurn, later, laneOf, laneIn, rowLength, lane}
 
 -- whose turn a channel has where a block begins some samples later
 abbrev turned : ℕ → Channel → Channel
@@ -226,7 +227,7 @@ same-part xs ys p =
     λ j. record { count = count j; squares = sums j; clipped = marked j }
 
 -- the first m triples in rows, and the others in order
-pub split-part : (c : Channel) (m : ℕ) (block : List ℤ) → 3 * m ≤ length block → m % 3 ≡ min m 1
+split-part : (c : Channel) (m : ℕ) (block : List ℤ) → 3 * m ≤ length block → m % 3 ≡ min m 1
     → partOf (laneIn c m (take (3 * m) block) ++ channel c (triplesOf (drop (3 * m) block))) ≡ partOf (channel c (triplesOf block))
 split-part c zero block h e = refl
 split-part c (suc k) block h e =
@@ -239,3 +240,11 @@ split-part c (suc k) block h e =
     let sums : (f : ℤ → ℕ) → total f (laneIn c m front ++ rest) ≡ total f (channel c (triplesOf front) ++ rest) =
     λ f. omega (arith, total-append f (laneIn c m front) rest, total-append f (channel c (triplesOf front)) rest, laneIn-total m front long f c (omega arith)) in
     same-part (laneIn c m front ++ rest) (channel c (triplesOf front) ++ rest) sums ∙ ap partOf both
+
+-- a block's lane is the part that its channel is, and so as long
+pub lane-part : (c : Channel) (block : List ℤ) → partOf (lane c block) ≡ partOf (channel c (triplesOf block))
+unfolding lane
+lane-part c block = split-part c (rowLength (length block / 3)) block (omega arith) (omega arith)
+
+pub lane-long : (c : Channel) (block : List ℤ) → length (lane c block) ≡ length block / 3
+lane-long c block = ap (λ (p : Part). p .count) (lane-part c block) ∙ length-channelOf c block

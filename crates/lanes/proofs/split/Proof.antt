@@ -8,11 +8,11 @@ use lib.ListN.{length, set, length-take}
 use borrow.Author.Needs.{needs}
 use Rattle.three_reading.specs.Three.{Three, each, Channel}
 use Rattle.three_reading.specs.Three.Channel.{onA, onB, onC}
-use Rattle.three_feed.specs.Lanes.{laneIn}
-use Rattle.three_feed.specs.LanesLaws.{turnOf, column, length-laneIn, laneIn-at}
-use Rattle.three_feed.proofs.Laying.{Small, kept, kept-is, Laid, laid-more, laid-all}
-use Rattle.three_feed.proofs.split.Statement.{statement}
-use Rattle.three_feed.proofs.split.Tie as tie
+use Rattle.lanes.specs.Lanes.{laneIn}
+use Rattle.lanes.specs.LanesLaws.{turnOf, column, length-laneIn, laneIn-at}
+use Rattle.lanes.proofs.Laying.{Small, kept, kept-is, Laid, laid-more, laid-all}
+use Rattle.lanes.proofs.split.Statement.{statement}
+use Rattle.lanes.proofs.split.Tie as tie
 
 abbrev AllSmall : Three ℤ → Type 0
 AllSmall t = Small (t .a) × Small (t .b) × Small (t .c)

@@ -1,11 +1,11 @@
 -- What is laid behind the rows stands behind them: the first n places of a lane are the part that its channel is.
 use mathlib.Core.Path.{_≡_, _∙_, ap}
 use mathlib.Core.List.{List, _++_, append-assoc}
-use Prim.Native.Nat.{ℕ, _-_, _*_, _/_, _%_, _^_, min, _≤_}
+use Prim.Native.Nat.{ℕ, _+_, _-_, _*_, _/_, _%_, _^_, _≤_}
 use native.Mathlib.Omega.{arith}
 use lib.IntN.{ℤ}
 use lib.ListN.{length, take, drop, length-append, length-take, length-drop}
-use lib.Seq.{take-all, take-at}
+use lib.Seq.{take-all, take-at, drop-at, drop-drop}
 use borrow.Author.Needs.{needs}
 use borrow.Rule.Slice.PartMut.{putMid}
 use Rattle.rms.specs.declared.Part.{Part}
@@ -13,45 +13,44 @@ use Rattle.rms.specs.Gather.{partOf}
 use Rattle.three_reading.specs.Three.{Three, triplesOf, Channel, channel}
 use Rattle.three_reading.specs.Three.Channel.{onA, onB, onC}
 use Rattle.three_laws.specs.ChannelLaws.{length-channel}
-use Rattle.three_state.specs.ThreeStep.{partsOf}
-use Rattle.three_feed.specs.Feed.{SquaresFit}
-use Rattle.three_feed.specs.Lanes.{laneIn}
-use Rattle.three_feed.specs.LanesLaws.{length-laneIn, length-channelOf, split-part}
-use Rattle.three_feed.proofs.parts_of.Statement.{statement}
-use Rattle.three_feed.proofs.parts_of.Tie as tie
-use Rattle.three_feed.proofs.parts_of.Reads as reads
-use Rattle.three_feed.proofs.parts_of.Lts as lts
+use Rattle.lanes.specs.Lanes.{laneIn, rowLength, lane, laid, SquaresFit, PartsAre}
+use Rattle.lanes.specs.LanesLaws.{length-laneIn, lane-part, lane-long}
+use Rattle.lanes.proofs.parts_of.Statement.{statement}
+use Rattle.lanes.proofs.parts_of.Tie as tie
+use Rattle.lanes.proofs.parts_of.Reads as reads
+use Rattle.lanes.proofs.parts_of.Lts as lts
 use Rattle.rms.proofs.sum_squares.Reads as sum-squares-reads
-use Rattle.three_feed.proofs.row_length.Reads as row-length-reads
-use Rattle.three_feed.proofs.split.Reads as split-reads
-use Rattle.three_feed.proofs.split_in_order.Reads as split-in-order-reads
+use Rattle.lanes.proofs.row_length.Reads as row-length-reads
+use Rattle.lanes.proofs.split.Reads as split-reads
+use Rattle.lanes.proofs.split_in_order.Reads as split-in-order-reads
 
 -- a lane of which the first m places are laid, and then the places up to n
 abbrev laidIn : ℕ → ℕ → List ℤ → List ℤ → List ℤ → List ℤ
 laidIn m n out rows rest = putMid m (n - m) (rows ++ drop m out) rest
 
-module _ (m n : ℕ) (out rows rest : List ℤ) (few : m ≤ n) (room : n ≤ length out) (p : length rows ≡ m) (q : length rest ≡ n - m) where
-  laid-is : laidIn m n out rows rest ≡ (rows ++ rest) ++ drop (n - m) (drop m (rows ++ drop m out))
-  laid-is = rw (take-at rows (drop m out) m p, append-assoc)
+laid-is : (m n : ℕ) (out rows rest : List ℤ) → m ≤ n → length rows ≡ m → laidIn m n out rows rest ≡ (rows ++ rest) ++ drop n out
+laid-is m n out rows rest few p =
+    let all : m + (n - m) ≡ n = omega arith in
+    rw (take-at rows (drop m out) m p, drop-at rows (drop m out) m p, drop-drop (n - m) m out, all, append-assoc)
 
-  laid-long : length (laidIn m n out rows rest) ≡ length out
-  laid-long = rw laid-is (simp (length-append, length-drop) (omega arith))
+both : (c : Channel) (m : ℕ) (block rows rest : List ℤ) → m ≡ rowLength (length block / 3) → rows ≡ laneIn c m (take (3 * m) block)
+    → rest ≡ channel c (triplesOf (drop (3 * m) block)) → rows ++ rest ≡ lane c block
+unfolding lane
+both c m block rows rest m-is rows-are rest-are = rw (rows-are, rest-are, m-is)
 
-  laid-front : take n (laidIn m n out rows rest) ≡ rows ++ rest
-  laid-front = rw laid-is (take-at (rows ++ rest) _ n (simp length-append (omega arith)))
-
--- a lane of 256 places, of which n are laid, m of them in rows: what is asked where its samples are summed, and that they are the channel's part
+-- a lane of 256 places, of which n are laid, m of them in rows: what is asked where its samples are summed, that they are the channel's part, and what it holds
 record Lane (c : Channel) (m n : ℕ) (block out rows rest : List ℤ) : Type 0 where
   long : length (laidIn m n out rows rest) ≡ length out
   reach : n ≤ length (laidIn m n out rows rest)
   count : n ≡ length (take n (laidIn m n out rows rest))
   few : length (take n (laidIn m n out rows rest)) ≤ 256
   part : partOf (take n (laidIn m n out rows rest)) ≡ partOf (channel c (triplesOf block))
+  holds : laidIn m n out rows rest ≡ laid c block out
 
-lane : (c : Channel) (m : ℕ) (block a out rows rest : List ℤ) → length block % 3 ≡ 0 → length block ≤ 768 → length a ≡ 256 → length out ≡ 256
-    → m ≤ length block / 3 → m % 3 ≡ min m 1 → rows ≡ laneIn c (length (take m a)) (take (3 * m) block)
+lane-is : (c : Channel) (m : ℕ) (block a out rows rest : List ℤ) → length block % 3 ≡ 0 → length block ≤ 768 → length a ≡ 256 → length out ≡ 256
+    → m ≡ rowLength (length block / 3) → rows ≡ laneIn c (length (take m a)) (take (3 * m) block)
     → rest ≡ channel c (triplesOf (take (length block - 3 * m) (drop (3 * m) block))) → Lane c m (length block / 3) block out rows rest
-lane c m block a out rows rest thirds most a-long out-long m-le turns rows-is rest-is =
+lane-is c m block a out rows rest thirds most a-long out-long m-is rows-is rest-is =
     let n = length block / 3 in
     let taken : length (take m a) ≡ m = simp length-take (omega arith) in
     let all : take (length block - 3 * m) (drop (3 * m) block) ≡ drop (3 * m) block =
@@ -59,17 +58,12 @@ lane c m block a out rows rest thirds most a-long out-long m-le turns rows-is re
     let rows-are : rows ≡ laneIn c m (take (3 * m) block) = rw taken at rows-is in
     let rest-are : rest ≡ channel c (triplesOf (drop (3 * m) block)) = rw all at rest-is in
     let p : length rows ≡ m = ap length rows-are ∙ length-laneIn m (take (3 * m) block) (simp length-take (omega arith)) c in
-    let q : length rest ≡ n - m = ap length rest-are ∙ (length-channelOf c (drop (3 * m) block) ∙ simp length-drop (omega arith)) in
-    let front = laid-front m n out rows rest m-le (omega arith) p q in
-    let long = laid-long m n out rows rest m-le (omega arith) p q in
-    let count : n ≡ length (take n (laidIn m n out rows rest)) = rw front (simp length-append (omega arith)) in
-    record {
-      long = long;
-      reach = omega arith;
-      count = count;
-      few = omega arith;
-      part = rw (front, rows-are, rest-are) (split-part c m block (omega arith) turns);
-    }
+    let holds : laidIn m n out rows rest ≡ laid c block out =
+    laid-is m n out rows rest (omega arith) p ∙ ap (λ (l : List ℤ). l ++ drop n out) (both c m block rows rest m-is rows-are rest-are) in
+    let front : take n (laidIn m n out rows rest) ≡ lane c block = rw holds (take-at (lane c block) (drop n out) n (lane-long c block)) in
+    let long : length (laidIn m n out rows rest) ≡ length out = rw holds (simp (length-append, length-drop) (omega (arith, lane-long c block))) in
+    let count : n ≡ length (take n (laidIn m n out rows rest)) = rw front (omega (arith, lane-long c block)) in
+    record { long = long; reach = omega arith; count = count; few = omega arith; part = rw front (lane-part c block); holds = holds }
 
 -- the parts, and how large they are
 module _ (xs : List (Three ℤ)) where
@@ -80,7 +74,7 @@ module _ (xs : List (Three ℤ)) where
       omega (arith, length-channel c xs)
 
   parts : {a b c : Part} → a ≡ partOf (channel onA xs) → b ≡ partOf (channel onB xs) → c ≡ partOf (channel onC xs) → a .squares ≤ a .count * 2 ^ 30
-      → b .squares ≤ b .count * 2 ^ 30 → c .squares ≤ c .count * 2 ^ 30 → (record { a = a; b = b; c = c } ≡ partsOf xs) × SquaresFit xs
+      → b .squares ≤ b .count * 2 ^ 30 → c .squares ≤ c .count * 2 ^ 30 → PartsAre xs (record { a = a; b = b; c = c })
   parts p q r u v w = (λ j. record { a = p j; b = q j; c = r j }, each)
     where
       each : SquaresFit xs
@@ -102,8 +96,8 @@ Place =
       sum-squares-reads.Learnt,
     ) reads.Pre reads.Post
 
-abbrev rowLength : Place → ℕ
-rowLength c = c .before .before .before .before .before .before .before .before .before .before .before .before .before .row-length .result
+abbrev rowLengthIn : Place → ℕ
+rowLengthIn c = c .before .before .before .before .before .before .before .before .before .before .before .before .before .row-length .result
 
 abbrev blockIn : Place → List ℤ
 blockIn c = c .before .before .before .before .before .before .before .before .before .before .before .before .before .before .args .block .now
@@ -123,22 +117,29 @@ restIn onA c = c .split-in-order .last .1 .0
 restIn onB c = c .split-in-order .last .1 .1 .0
 restIn onC c = c .split-in-order .last .1 .1 .1 .0
 
-lane-in : (d : Channel) (c : Place) → Lane d (rowLength c) (length (blockIn c) / 3) (blockIn c) (outIn d c) (rowsIn d c) (restIn d c)
-lane-in onA c =
+-- what the place has of each channel
+out-long : (d : Channel) (c : Place) → length (outIn d c) ≡ 256
+out-long onA c = c .before .before .before .before .before .before .before .before .before .before .before .before .before .before .pre .2
+out-long onB c = c .before .before .before .before .before .before .before .before .before .before .before .before .before .before .pre .3
+out-long onC c = c .before .before .before .before .before .before .before .before .before .before .before .before .before .before .pre .4
+
+rows-are : (d : Channel) (c : Place) → let m = rowLengthIn c in rowsIn d c ≡ laneIn d (length (take m (outIn onA c))) (take (3 * m) (blockIn c))
+rows-are onA c = c .before .before .before .before .before .before .before .before .split .ensures .0
+rows-are onB c = c .before .before .before .before .before .before .before .before .split .ensures .1
+rows-are onC c = c .before .before .before .before .before .before .before .before .split .ensures .2
+
+rest-are : (d : Channel) (c : Place) → let m = rowLengthIn c in
+    restIn d c ≡ channel d (triplesOf (take (length (blockIn c) - 3 * m) (drop (3 * m) (blockIn c))))
+rest-are onA c = c .split-in-order .ensures .0
+rest-are onB c = c .split-in-order .ensures .1
+rest-are onC c = c .split-in-order .ensures .2
+
+lane-in : (d : Channel) (c : Place) → Lane d (rowLengthIn c) (length (blockIn c) / 3) (blockIn c) (outIn d c) (rowsIn d c) (restIn d c)
+lane-in d c =
     let pre = c .before .before .before .before .before .before .before .before .before .before .before .before .before .before .pre in
     let row = c .before .before .before .before .before .before .before .before .before .before .before .before .before .row-length .ensures in
-    lane onA (rowLength c) (blockIn c) (outIn onA c) (outIn onA c) (rowsIn onA c) (restIn onA c) (pre .0) (pre .1) (pre .2) (pre .2) (row .0) (row .1)
-    (c .before .before .before .before .before .before .before .before .split .ensures .0) (c .split-in-order .ensures .0)
-lane-in onB c =
-    let pre = c .before .before .before .before .before .before .before .before .before .before .before .before .before .before .pre in
-    let row = c .before .before .before .before .before .before .before .before .before .before .before .before .before .row-length .ensures in
-    lane onB (rowLength c) (blockIn c) (outIn onA c) (outIn onB c) (rowsIn onB c) (restIn onB c) (pre .0) (pre .1) (pre .2) (pre .3) (row .0) (row .1)
-    (c .before .before .before .before .before .before .before .before .split .ensures .1) (c .split-in-order .ensures .1)
-lane-in onC c =
-    let pre = c .before .before .before .before .before .before .before .before .before .before .before .before .before .before .pre in
-    let row = c .before .before .before .before .before .before .before .before .before .before .before .before .before .row-length .ensures in
-    lane onC (rowLength c) (blockIn c) (outIn onA c) (outIn onC c) (rowsIn onC c) (restIn onC c) (pre .0) (pre .1) (pre .2) (pre .4) (row .0) (row .1)
-    (c .before .before .before .before .before .before .before .before .split .ensures .2) (c .split-in-order .ensures .2)
+    lane-is d (rowLengthIn c) (blockIn c) (outIn onA c) (outIn d c) (rowsIn d c) (restIn d c) (pre .0) (pre .1) (pre .2) (out-long d c) row
+    (rows-are d c) (rest-are d c)
 
 row-length-requires : tie.Need-row-length-requires
 row-length-requires c κs = search needs
@@ -259,11 +260,18 @@ same-length-3 c = lane-in onC (c .before .before .before .before .before .before
 
 returns : tie.Need-returns
 returns c =
-    let laid = c .before .before .before .before .before .before .before .before .before in
+    let place = c .before .before .before .before .before .before .before .before .before in
     let a = c .before .before .before .before .sum-squares .ensures in
     let b = c .before .before .sum-squares2 .ensures in
     let d = c .sum-squares3 .ensures in
-    parts (triplesOf (blockIn laid)) (a .0 ∙ lane-in onA laid .part) (b .0 ∙ lane-in onB laid .part) (d .0 ∙ lane-in onC laid .part) (a .1) (b .1) (d .1)
+    let on-a = lane-in onA place in
+    let on-b = lane-in onB place in
+    let on-c = lane-in onC place in (
+      parts (triplesOf (blockIn place)) (a .0 ∙ on-a .part) (b .0 ∙ on-b .part) (d .0 ∙ on-c .part) (a .1) (b .1) (d .1),
+      on-a .holds,
+      on-b .holds,
+      on-c .holds,
+    )
 
 pub parts-of-spec : {M : Type 1} → statement M
 parts-of-spec =

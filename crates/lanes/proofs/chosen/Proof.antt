@@ -3,8 +3,8 @@ use mathlib.Core.Path.{_≡_}
 use native.Mathlib.Omega.{arith}
 use mir.Syntax.{w16}
 use mir.ValLaws.{toZ-ofZ}
-use Rattle.three_feed.proofs.chosen.Statement.{statement}
-use Rattle.three_feed.proofs.chosen.Tie as tie
+use Rattle.lanes.proofs.chosen.Statement.{statement}
+use Rattle.lanes.proofs.chosen.Tie as tie
 
 returns : tie.Need-returns
 returns c =

@@ -11,7 +11,7 @@ use lib.Signed.{mag}
 use lib.IntN.{ℤ, pos}
 use lib.ListN.{length, take, set, length-set}
 use lib.Seq.{take-all, take-suc, take-suc-set}
-use Rattle.three_feed.specs.LanesLaws.{sampleAt}
+use Rattle.lanes.specs.LanesLaws.{sampleAt}
 
 -- a sample is signed, and goes by its bits
 abbrev pub Small : ℤ → Type 0

@@ -8,10 +8,10 @@ use lib.ListN.{length, set}
 use borrow.Author.Needs.{needs}
 use Rattle.three_reading.specs.Three.{triplesOf, Channel, at, channel}
 use Rattle.three_reading.specs.Three.Channel.{onA, onB, onC}
-use Rattle.three_feed.specs.LanesLaws.{tripleAt, channel-at, length-channelOf}
-use Rattle.three_feed.proofs.Laying.{Small, kept, Laid, laid-more, laid-all}
-use Rattle.three_feed.proofs.split_in_order.Statement.{statement}
-use Rattle.three_feed.proofs.split_in_order.Tie as tie
+use Rattle.lanes.specs.LanesLaws.{tripleAt, channel-at, length-channelOf}
+use Rattle.lanes.proofs.Laying.{Small, kept, Laid, laid-more, laid-all}
+use Rattle.lanes.proofs.split_in_order.Statement.{statement}
+use Rattle.lanes.proofs.split_in_order.Tie as tie
 
 module _ (c : Channel) (n i : ℕ) (block : List ℤ) {before now : List ℤ} (l : Laid (channel c (triplesOf block)) i before now) (same : length before ≡ n)
     (long : length block ≡ 3 * n) where
