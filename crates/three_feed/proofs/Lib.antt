@@ -1,3 +1,2 @@
 pub mod EachPart
-pub mod HalfEnds
 pub mod Walking

@@ -34,9 +34,10 @@ use Rattle.three_state.specs.ThreeStepLaws.{threeCuts}
 use Rattle.three_state.specs.ThreeStepValid.{threePart-valid, threeHalf-valid}
 use Rattle.three_state.specs.ThreeFed.{threeFedWith}
 use Rattle.lanes.specs.Lanes.{SquaresFit, PartsAre}
-use Rattle.three_feed.specs.declared.Half.{Half}
+use Rattle.three_half.specs.declared.Half.{Half}
+use Rattle.three_half.specs.Halves.{HalfReady, HalfOutcome, halfBy, halfOutcome, gatheredBy, halfOf}
 use Rattle.three_feed.specs.declared.ThreeWalked.{ThreeWalked}
-use Rattle.three_feed.specs.Feed.{HalfReady, HalfOutcome, halfBy, halfOutcome, gatheredBy, halfOf, walkedOf, walkedWith, RoomFor}
+use Rattle.three_feed.specs.Feed.{walkedOf, walkedWith, RoomFor}
 use Rattle.three_feed.proofs.EachPart.{count-at, parts-fit}
 
 -- the triples of a part of a block, as the code takes it: up to triple e, and all behind triple a

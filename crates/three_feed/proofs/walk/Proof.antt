@@ -7,7 +7,7 @@ use borrow.Author.Needs.{needs}
 use Rattle.three_reading.specs.Three.{triplesOf}
 use Rattle.three_reading.specs.Three.Channel.{onA, onB, onC}
 use Rattle.joint.specs.Joint.{threeOf}
-use Rattle.three_feed.proofs.HalfEnds.{sums-fit}
+use Rattle.three_half.specs.HalvesLaws.{sums-fit}
 use Rattle.three_feed.proofs.Walking.{Walking, three-long, walk-starts, share-some, part-ready, stop-ready, complete-ready, taken-fits, taken-count}
 use Rattle.three_feed.proofs.Walking.{walk-turns, walk-stops, end-ready, walk-ends, same-window, same-marks, same-records}
 use Rattle.three_feed.proofs.walk.Statement.{statement}

@@ -1,8 +1,8 @@
 -- Each channel's window is the pushed one.
 use borrow.Author.Needs.{needs}
 use Rattle.joint.specs.Joint.{threeOf}
-use Rattle.three_feed.proofs.push_values.Statement.{statement}
-use Rattle.three_feed.proofs.push_values.Tie as tie
+use Rattle.three_half.proofs.push_values.Statement.{statement}
+use Rattle.three_half.proofs.push_values.Tie as tie
 
 push-requires : tie.Need-push-requires
 push-requires c κs = search needs

@@ -1,7 +1,7 @@
 -- Each channel's part joins its gatherer.
 use Rattle.three_reading.specs.Three.Channel.{onA, onB, onC}
-use Rattle.three_feed.proofs.halves_of.Statement.{statement}
-use Rattle.three_feed.proofs.halves_of.Tie as tie
+use Rattle.three_half.proofs.halves_of.Statement.{statement}
+use Rattle.three_half.proofs.halves_of.Tie as tie
 
 with-half-requires : tie.Need-with-half-requires
 with-half-requires c κs = c .before .before .before .pre onA

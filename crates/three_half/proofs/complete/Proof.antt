@@ -6,9 +6,10 @@ use borrow.Author.Tests.{not-true, not-false}
 use Rattle.three_reading.specs.Three.Channel.{onA, onB, onC}
 use Rattle.joint.specs.declared.JointSums.{JointSums}
 use Rattle.joint.specs.Joint.{threeOf}
-use Rattle.three_feed.proofs.HalfEnds.{sums-fit, values-ready, ready, first-half, end-half, full-half, taken-half}
-use Rattle.three_feed.proofs.complete.Statement.{statement}
-use Rattle.three_feed.proofs.complete.Tie as tie
+use Rattle.three_half.specs.HalvesLaws.{sums-fit}
+use Rattle.three_half.proofs.HalfEnds.{values-ready, ready, first-half, end-half, full-half, taken-half}
+use Rattle.three_half.proofs.complete.Statement.{statement}
+use Rattle.three_half.proofs.complete.Tie as tie
 
 halves-of-requires : tie.Need-halves-of-requires
 halves-of-requires c κs = sums-fit (c .before .before .before .before .before .pre)

@@ -2,9 +2,9 @@
 use Prim.Native.Nat.{ℕ, _≤_}
 use Rattle.three_reading.specs.Three.Channel.{onA, onB, onC}
 use Rattle.joint.specs.Joint.{threeOf, Small3}
-use Rattle.three_feed.specs.Feed.{valuesBy}
-use Rattle.three_feed.proofs.values_of.Statement.{statement}
-use Rattle.three_feed.proofs.values_of.Tie as tie
+use Rattle.three_half.specs.Halves.{valuesBy}
+use Rattle.three_half.proofs.values_of.Statement.{statement}
+use Rattle.three_half.proofs.values_of.Tie as tie
 
 value-of-requires : tie.Need-value-of-requires
 value-of-requires c κs =

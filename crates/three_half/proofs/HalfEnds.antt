@@ -17,7 +17,6 @@ use Rattle.reading.specs.Records.{recordBytes}
 use Rattle.reading.specs.Engineer.{over, room}
 use Rattle.rms.specs.declared.Gatherer.{Gatherer}
 use Rattle.rms.specs.Gather.{withHalf}
-use Rattle.rms.specs.GatherLaws.{sum-le}
 use Rattle.window.specs.Window.{pushed}
 use Rattle.records.specs.Due.{recordsOf}
 use Rattle.three_reading.specs.Three.{Three, Channel}
@@ -33,8 +32,9 @@ use Rattle.three_state.specs.declared.ThreeState.{ThreeState}
 use Rattle.three_state.specs.ThreeState.{gathererAt, windowsIn, threeWith}
 use Rattle.three_state.specs.ThreeStep.{withJoints, dueOnThree, withGatherers, partAt, withHalves, valuesWith, valuesOut}
 use Rattle.three_state.specs.ThreeStep.{threePasses, threeHalfDue, threeHalf, threeWhyNot}
-use Rattle.three_feed.specs.declared.Half.{Half}
-use Rattle.three_feed.specs.Feed.{HalfReady, halfBy, halfOutcome, refusedHalf, gatheredBy, halfOf, SumsFit, ValuesReady, valuesBy}
+use Rattle.three_half.specs.declared.Half.{Half}
+use Rattle.three_half.specs.Halves.{HalfReady, halfBy, halfOutcome, refusedHalf, gatheredBy, halfOf, ValuesReady, valuesBy}
+use Rattle.three_half.specs.HalvesLaws.{sum-at}
 
 half-at : (c : Channel) (g : Gatherers) (p : Parts) → gathererAt c (withHalves g p) ≡ withHalf (gathererAt c g) (partAt c p)
 half-at onA g p = refl
@@ -46,19 +46,13 @@ module _ {s : Settings} {t : Scaled} {g : Gatherers} {j : Joint} {a : JointSums}
   abbrev st : ThreeState
   st = threeWith s g j ws ms
 
-  -- for the gatherers, for the values, and for the step of them
-  sum-at : (c : Channel) → gathererAt c g .sum + partAt c p .squares ≤ s .samples * 2 ^ 30
-  sum-at c = sum-le (s .samples) (gathererAt c g) (partAt c p) (pre .valid .gatherer-valid c) (pre .part-fits c)
-
-  pub sums-fit : SumsFit g p
-  sums-fit c = omega (arith, sum-at c, pre .valid .settings-valid .samples-valid .1)
-
+  -- for the values, and for the step of them
   pub values-ready : (halves : Gatherers) → halves ≡ withHalves g p → ValuesReady s g halves ws
   values-ready halves are = record {
     samples-some = omega (arith, pre .valid .settings-valid .samples-valid .0);
     samples-most = pre .valid .settings-valid .samples-valid .1;
     last-le = λ c. pre .valid .gatherer-valid c .1 .1 .0;
-    half-le = λ c. omega (arith, sum-at c, ap (λ (h : Gatherers). gathererAt c h .last) are, ap (λ (h : Gatherer). h .last) (half-at c g p));
+    half-le = λ c. omega (arith, sum-at pre c, ap (λ (h : Gatherers). gathererAt c h .last) are, ap (λ (h : Gatherer). h .last) (half-at c g p));
     window-long = λ c. pre .valid .window-valid c .size;
   }
 
