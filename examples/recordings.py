@@ -23,10 +23,11 @@ QUARTER = (
 PEAK = 16263  # 11500 counts times the root of 2
 
 
-def half(number, level):
-    """Half-cycle `number` of a sine wave at `level` hundredths of a percent of 230 V."""
-    sign = 1 if number % 2 == 0 else -1
-    return [sign * ((level * PEAK * x + 163840000) // 327680000) for x in QUARTER + QUARTER[::-1]]
+def half(number, level, ahead=0):
+    """Half-cycle `number` of a sine wave at `level` hundredths of a percent of 230 V, which is so many samples ahead."""
+    wave = QUARTER + QUARTER[::-1]
+    places = [number * len(wave) + ahead + i for i in range(len(wave))]
+    return [(-1) ** (i // len(wave)) * ((level * PEAK * wave[i % len(wave)] + 163840000) // 327680000) for i in places]
 
 
 def start(lowest, held, rising, running):
@@ -41,12 +42,14 @@ def crusher():
 
 
 def feeder():
-    """Three phases: a quiet feed; a motor's start, to 94, 95 and 96 %; its run; then an earth fault, in which a falls to 60 % and b rises to 113 %; its run again."""
+    """Three phases, a third of a period apart: a quiet feed; a motor's start, to 94, 95 and 96 %; its run; then an earth fault, in which a falls to 60 % and b rises to 113 %; its run again."""
+    period = 4 * len(QUARTER)
+    ahead = [0, round(2 * period / 3), round(period / 3)]
     levels = [
         [10000] * 110 + start(lowest, 6, 6, 9900) + [9900] * 115 + [fault] * 6 + [9900] * 6
         for lowest, fault in ((9400, 6000), (9500, 11300), (9600, 9900))
     ]
-    return [x for number, three in enumerate(zip(*levels)) for triple in zip(*(half(number, level) for level in three)) for x in triple]
+    return [x for number, three in enumerate(zip(*levels)) for triple in zip(*map(half, [number] * 3, three, ahead)) for x in triple]
 
 
 def worked():

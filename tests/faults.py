@@ -1,5 +1,5 @@
 #!/usr/bin/env python3
-"""Runs the example host, and the event program, while their reads and writes fail, and holds what they print to what they should.
+"""Runs the example host, and the event programs, while their reads and writes fail, and holds what they print to what they should.
 
     python3 tests/faults.py LOG [EVENT_PROGRAM [EVENT_PROGRAM_OF_THREE]]
 

@@ -25,7 +25,7 @@ const CHUNK: usize = 12288;
 
 const CHUNK_BYTES: usize = 2 * CHUNK;
 
-// The records that a feed has room for. Four are enough: one triple never has more due.
+// The records that a feed has room for. Four are enough: no valid state has more due at one triple.
 const RECORDS: usize = 64;
 
 // The logger after samples, and why it took no more: 0 all taken, 2 V is at its end.

@@ -7,6 +7,7 @@
 
 use super::engineer::Engineer;
 use super::logger::Logger;
+use super::program::HIGH;
 use super::seen::Marks;
 use super::{waves, Looked};
 use crate::call_lists::{buffer, List};
@@ -114,7 +115,7 @@ struct Making<'a> {
 }
 
 impl Making<'_> {
-    /// Feeds the first samples of `source`; gives how many were taken.
+    /// Feeds these samples; gives how many were taken.
     fn feed(&mut self, samples: &[i16], room: usize) -> usize {
         let fill = self.rng.next() as u8;
         let mut bytes = crate::waves::bytes(samples);
@@ -220,6 +221,37 @@ impl Making<'_> {
     }
 }
 
+/// The item of a start that is not refused, before so many calls, and what its calls are made with.
+fn start<'a>(
+    mut list: List,
+    s: Settings,
+    calls: i64,
+    rng: &'a mut Rng,
+    seen: &'a mut Tally,
+) -> Making<'a> {
+    let bytes = settings_bytes(&s);
+    list.item(START, rng.next() as u8, calls as usize, &bytes);
+    list.text += "start\n";
+    seen.items[START as usize] += 1;
+    let engineer = Engineer::start(&bytes).unwrap();
+    Making { rng, s, engineer, list, seen }
+}
+
+/// A dip, an interruption and a change that end with one value: with no room for the third record,
+/// with room for all, and a look after each.
+fn three_due(rng: &mut Rng, seen: &mut Tally) -> List {
+    let s = Settings { i: HIGH.d, g: 0, ..HIGH };
+    let steps = [(150, 22_250), (2, 21_250), (100, 22_250), (3, 22_750)];
+    let block = steps.map(|(halves, count)| vec![count; 24 * halves]).concat();
+    let mut making = start(List::default(), s, 4, rng, seen);
+    let taken = making.feed(&block, 59);
+    making.look();
+    making.feed(&block[taken..], 60);
+    making.look();
+    assert_eq!(making.engineer.written().len(), 3 * RECORD);
+    making.list
+}
+
 /// Calls on good settings, then a feed of what is left, and a look; sometimes after starts that are
 /// refused, with each number.
 pub fn list(rng: &mut Rng, seen: &mut Tally) -> List {
@@ -232,13 +264,8 @@ pub fn list(rng: &mut Rng, seen: &mut Tally) -> List {
         seen.refusals[number as usize] += 1;
     }
     let s = waves::settings(rng);
-    let bytes = settings_bytes(&s);
     let calls = rng.range(1, 25);
-    list.item(START, rng.next() as u8, calls as usize + 2, &bytes);
-    list.text += "start\n";
-    seen.items[START as usize] += 1;
-    let engineer = Engineer::start(&bytes).unwrap();
-    let mut making = Making { rng, s, engineer, list, seen };
+    let mut making = start(list, s, calls + 2, rng, seen);
     making.calls(calls);
     assert_eq!(making.engineer.written(), making.engineer.due());
     making.seen.marks.readings(&making.engineer.readings());
@@ -258,6 +285,7 @@ pub fn files(seen: &mut Tally) -> List {
     for number in FILES_LISTS {
         all.append(list(&mut Rng::of_case(FILES_SEED, number), seen));
     }
+    all.append(three_due(&mut Rng::of_case(FILES_SEED, 0), seen));
     end(&mut all, FEED);
     all
 }

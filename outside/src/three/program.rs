@@ -67,7 +67,7 @@ pub fn by_logger(input: &[u8]) -> Text {
 }
 
 /// Settings under which each kind of record can be marked: U is 25,000 counts.
-const HIGH: Settings = Settings {
+pub(super) const HIGH: Settings = Settings {
     m: 8,
     f: 50,
     u: 400_000,

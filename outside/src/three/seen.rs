@@ -72,7 +72,9 @@ pub struct Seen {
     not_own: [u64; 5],
     /// Values at which the joint dip and swell both stand.
     dip_and_swell: u64,
-    /// Channels' values exactly on the limits D, D + G, W, W − G, I, I + G.
+    /// Values where the channel that decides, a dip's lowest, a swell's or an interruption's highest,
+    /// is exactly on the limit in force: D, W, I where the event did not stand, D + G, W − G, I + G
+    /// where it did.
     on_limits: [u64; 6],
     /// Windows whose furthest value is exactly at the limit in force: T, and T − H after k.
     at_limit: [u64; 2],
@@ -171,12 +173,24 @@ impl Seen {
 
     fn limits(&mut self, x: &Readings) {
         let s = x.settings();
-        let limits = [s.d, s.d + s.g, s.w, s.w - s.g, s.i, s.i + s.g];
-        for channel in x.channels() {
-            for i in 1..=x.v() {
-                let on = |&limit: &i64| 10_000 * channel.r(i) == limit * s.u;
-                (0..6).filter(|&j| on(&limits[j])).for_each(|j| self.on_limits[j] += 1);
+        for i in 1..=x.v() {
+            let values = x.channels().each_ref().map(|x| x.r(i));
+            let (low, high) =
+                (values.into_iter().min().unwrap(), values.into_iter().max().unwrap());
+            let stood = [1, 2, 3].map(|kind| x.stands(kind)[i as usize - 1]);
+            let decides = [
+                (!stood[0], low, s.d),
+                (stood[0], low, s.d + s.g),
+                (!stood[1], high, s.w),
+                (stood[1], high, s.w - s.g),
+                (!stood[2], high, s.i),
+                (stood[2], high, s.i + s.g),
+            ];
+            for (count, (asked, r, limit)) in self.on_limits.iter_mut().zip(decides) {
+                *count += (asked && 10_000 * r == limit * s.u) as u64;
             }
+        }
+        for channel in x.channels() {
             // The value at which the signal last turned false, while it is false.
             let mut k = None;
             for i in s.n..=x.v() {
@@ -219,7 +233,7 @@ impl Seen {
         add("dip and swell stand".into(), self.dip_and_swell);
         let limits = ["D", "D + G", "W", "W - G", "I", "I + G"];
         for (name, count) in limits.iter().zip(self.on_limits) {
-            add(format!("value at {name}"), count);
+            add(format!("joint value at {name}"), count);
         }
         add("window at T".into(), self.at_limit[0]);
         add("window at T - H".into(), self.at_limit[1]);
