@@ -33,8 +33,7 @@ pub parts-fit : (m : ℕ) (g : Gatherers) (xs : List (Three ℤ)) → SquaresFit
 parts-fit m g xs small room c =
     rw (part-at c xs) (partOf-fits m (gathererAt c g) (channel c xs) (omega (arith, small c, length-channel c xs)) (omega (arith, room c, length-channel c xs)))
 
-pub part-joins : (g : Gatherers) (block : List ℤ) (p : Parts) → RoomFor g (length block / 3) →
-    PartsAre (triplesOf block) p → (c : Channel) →
+pub part-joins : (g : Gatherers) (block : List ℤ) (p : Parts) → RoomFor g (length block / 3) → PartsAre (triplesOf block) p → (c : Channel) →
     (gathererAt c g .count + partAt c p .count < 2 ^ 32) × (gathererAt c g .sum + partAt c p .squares < 2 ^ 64)
 part-joins g block p room are c =
     let own : partAt c p ≡ partOf (channel c (triplesOf block)) = ap (partAt c) (are .0) ∙ part-at c (triplesOf block) in

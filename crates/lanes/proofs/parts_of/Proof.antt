@@ -1,4 +1,4 @@
--- What is laid behind the rows stands behind them: the first n places of a lane are the part that its channel is.
+-- What is laid behind the rows stands behind them: the first n places hold the block's lane, which is the part that its channel is.
 use mathlib.Core.Path.{_≡_, _∙_, ap}
 use mathlib.Core.List.{List, _++_, append-assoc}
 use Prim.Native.Nat.{ℕ, _+_, _-_, _*_, _/_, _%_, _^_, _≤_}
@@ -33,6 +33,7 @@ laid-is m n out rows rest few p =
     let all : m + (n - m) ≡ n = omega arith in
     rw (take-at rows (drop m out) m p, drop-at rows (drop m out) m p, drop-drop (n - m) m out, all, append-assoc)
 
+-- rows and rest together are the block's lane
 both : (c : Channel) (m : ℕ) (block rows rest : List ℤ) → m ≡ rowLength (length block / 3) → rows ≡ laneIn c m (take (3 * m) block)
     → rest ≡ channel c (triplesOf (drop (3 * m) block)) → rows ++ rest ≡ lane c block
 unfolding lane
