@@ -11,9 +11,9 @@ use Rattle.three_state.specs.declared.Parts.{Parts}
 use Rattle.three_state.specs.ThreeStep.{partsOf}
 
 -- one of three, by the number of its turn
-abbrev pub inTurn : ℕ → ℤ → ℤ → ℤ → ℤ
-inTurn zero x y z = x
-inTurn (suc n) x y z = inTurn n y z x
+abbrev pub byTurn : ℕ → ℤ → ℤ → ℤ → ℤ
+byTurn zero x y z = x
+byTurn (suc n) x y z = byTurn n y z x
 
 -- whose turn a channel has where a block begins one sample later: b has a's, c has b's, and a has c's
 abbrev pub later : Channel → Channel

@@ -17,7 +17,7 @@ use Rattle.three_reading.specs.Three.{Three, triplesOf, Channel, at, channel}
 use Rattle.three_reading.specs.Three.Channel.{onA, onB, onC}
 use Rattle.three_laws.specs.ChannelLaws.{length-channel, channel-append}
 use Rattle.three_laws.specs.TriplesLaws.{length-triples, triples-take, triples-drop}
-use Rattle.lanes.specs.Lanes.{inTurn, later, laneOf, laneIn, rowLength, lane}
+use Rattle.lanes.specs.Lanes.{byTurn, later, laneOf, laneIn, rowLength, lane}
 
 -- whose turn a channel has where a block begins some samples later
 abbrev turned : ℕ → Channel → Channel
@@ -92,22 +92,22 @@ module _ (f : ℤ → ℕ) where
 
 -- the sample of a column that is a channel's, by the column's turn
 abbrev pub turnOf : Channel → ℕ → Three ℤ → ℤ
-turnOf onA i t = inTurn i (t .a) (t .c) (t .b)
-turnOf onB i t = inTurn i (t .b) (t .a) (t .c)
-turnOf onC i t = inTurn i (t .c) (t .b) (t .a)
+turnOf onA i t = byTurn i (t .a) (t .c) (t .b)
+turnOf onB i t = byTurn i (t .b) (t .a) (t .c)
+turnOf onC i t = byTurn i (t .c) (t .b) (t .a)
 
-inTurn-three : (i : ℕ) (x y z : ℤ) → inTurn i x y z ≡ inTurn (i % 3) x y z
-inTurn-three zero x y z = refl
-inTurn-three (suc zero) x y z = refl
-inTurn-three (suc (suc zero)) x y z = refl
-inTurn-three (suc (suc (suc i))) x y z =
+byTurn-three : (i : ℕ) (x y z : ℤ) → byTurn i x y z ≡ byTurn (i % 3) x y z
+byTurn-three zero x y z = refl
+byTurn-three (suc zero) x y z = refl
+byTurn-three (suc (suc zero)) x y z = refl
+byTurn-three (suc (suc (suc i))) x y z =
     let e : suc (suc (suc i)) % 3 ≡ i % 3 = omega arith in
-    rw e (inTurn-three i x y z)
+    rw e (byTurn-three i x y z)
 
 turnOf-three : (c : Channel) (i : ℕ) (t : Three ℤ) → turnOf c i t ≡ turnOf c (i % 3) t
-turnOf-three onA i t = inTurn-three i (t .a) (t .c) (t .b)
-turnOf-three onB i t = inTurn-three i (t .b) (t .a) (t .c)
-turnOf-three onC i t = inTurn-three i (t .c) (t .b) (t .a)
+turnOf-three onA i t = byTurn-three i (t .a) (t .c) (t .b)
+turnOf-three onB i t = byTurn-three i (t .b) (t .a) (t .c)
+turnOf-three onC i t = byTurn-three i (t .c) (t .b) (t .a)
 
 turnOf-first : (c : Channel) (t : Three ℤ) → at c t ≡ turnOf c 0 t
 turnOf-first onA t = refl

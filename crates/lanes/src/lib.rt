@@ -5,12 +5,12 @@ ghost use Prim.Native.Nat.{_*_, _%_, _≤_, _<_};
 ghost use lib.ListN.{length};
 ghost use Rattle.three_reading.specs.Three.{triplesOf, channel};
 ghost use Rattle.three_reading.specs.Three.Channel.{onA, onB, onC};
-ghost use Rattle.lanes.specs.Lanes.{inTurn, laneIn, rowLength, laid, PartsAre};
+ghost use Rattle.lanes.specs.Lanes.{byTurn, laneIn, rowLength, laid, PartsAre};
 
 // One of three samples, by its turn.
 fn chosen(turn: u16, x: i16, y: i16, z: i16) -> i16
     requires { ⌜ turn < 3 ⌝ }
-    ensures { λ r. ⌜ r ≡ inTurn turn x y z ⌝ }
+    ensures { λ r. ⌜ r ≡ byTurn turn x y z ⌝ }
 {
     if turn == 0 {
         return x;

@@ -13,14 +13,13 @@ use Rattle.settings.specs.Settings.{windowLength}
 use Rattle.settings.specs.SettingsLaws.{windowLength-some, windowLength-most}
 use Rattle.reading.specs.Changes.{calm, Signal, next, signal}
 use Rattle.reading.specs.Changes.Signal.{filling, unsettled, steady, changing}
-use Rattle.reading_laws.specs.Sentences.{truth}
 use Rattle.window.specs.Window.{windowOf}
 use Rattle.window.specs.WindowFollows.{window-follows, calm-windowOf}
 use Rattle.rvc.specs.Signal.{limitIn, heldAt, steadyAfter, signalAfter, signalOf, trueAt, turned, ValidSignal}
 use Rattle.rvc.specs.SignalLaws.{asked-full, true-full, unless-held}
 use Rattle.rvc.specs.SignalValid.{after-valid}
 
--- for any truth: what the signal is after a value, as the code keeps it, and that its truth is the one given
+-- for any truth: what the signal is after a value, as the code keeps it
 module _ (n i : ℕ) where
   pub turned-is : (b : Bool) (p : Signal) → signalOf (turned n i b p) ≡ signalAfter n i b (signalOf p)
   turned-is true p = refl
@@ -32,17 +31,6 @@ module _ (n i : ℕ) where
   turned-is false unsettled = refl
   turned-is false steady = refl
   turned-is false (changing k) = refl
-
-  pub turned-truth : (b : Bool) (p : Signal) → truth (turned n i b p) ≡ b
-  turned-truth true p = refl
-  turned-truth false filling = fills (i <ᵇ n)
-    where
-      fills : (few : Bool) → truth (if few then filling else unsettled) ≡ false
-      fills true = refl
-      fills false = refl
-  turned-truth false unsettled = refl
-  turned-truth false steady = refl
-  turned-truth false (changing k) = refl
 
 pub turned-valid : (n v : ℕ) (b : Bool) (p : Signal) → (b ≡ true → n ≤ suc v) → ValidSignal n v (signalOf p) → ValidSignal n (suc v) (signalOf (turned n (suc v) b p))
 turned-valid n v b p full h = subst (ValidSignal n (suc v)) (sym (turned-is n (suc v) b p)) (after-valid n v b (signalOf p) full h)

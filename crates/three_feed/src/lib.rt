@@ -97,7 +97,7 @@ pub fn walk(
     let mut lane_b = [0i16; 256];
     let mut lane_c = [0i16; 256];
     let mut g = gatherers;
-    let mut d = joint;
+    let mut kept = joint;
     let mut sums = JointSums {
         a: window::sum_of(a),
         b: window::sum_of(b),
@@ -118,7 +118,7 @@ pub fn walk(
             settings,
             scaled,
             g,
-            d,
+            kept,
             sums,
             a,
             b,
@@ -132,7 +132,7 @@ pub fn walk(
             let rest = 3 * taken;
             return end_walk(
                 g,
-                d,
+                kept,
                 &block[start..rest],
                 &mut lane_a,
                 &mut lane_b,
@@ -142,8 +142,9 @@ pub fn walk(
                 half.why,
             );
         }
+        // Made again: carried through `complete`, the gatherers would be copied once more at every half-cycle.
         g = three_half::halves_of(g, parts);
-        d = half.joint;
+        kept = half.joint;
         sums = half.sums;
         written += half.written;
         at = end;
@@ -153,7 +154,7 @@ pub fn walk(
     let start = 3 * at;
     end_walk(
         g,
-        d,
+        kept,
         &block[start..],
         &mut lane_a,
         &mut lane_b,

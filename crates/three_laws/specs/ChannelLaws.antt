@@ -4,7 +4,7 @@ use mathlib.Core.Bool.{Bool, true, false, _&&_, _||_}
 use mathlib.Core.List.{List, [], _∷_, _++_, map-append}
 use Prim.Native.Nat.{ℕ, zero, suc}
 use native.Mathlib.Omega.{arith}
-use lib.ListN.{length, length-map, take, drop}
+use lib.ListN.{length, length-map, take}
 use Rattle.numbers.specs.Notation.{flag}
 use Rattle.numbers.specs.NotationLaws.{and-left, and-right}
 use Rattle.three_reading.specs.Three.{Three, each, anyOf, allOf, Channel, at, channel, channels}
@@ -39,11 +39,6 @@ module _ {X : Type 0} where
   channel-take c zero l = refl
   channel-take c (suc n) [] = refl
   channel-take c (suc n) (t ∷ ts) = ap (λ (l : List X). at c t ∷ l) (channel-take c n ts)
-
-  pub channel-drop : (c : Channel) (n : ℕ) (l : List (Three X)) → channel c (drop n l) ≡ drop n (channel c l)
-  channel-drop c zero l = refl
-  channel-drop c (suc n) [] = refl
-  channel-drop c (suc n) (t ∷ ts) = channel-drop c n ts
 
 pub never : {A : Type 0} → true ≡ false → A
 never e = let z : _≡_ {A = ℕ} 1 0 = ap flag e in absurd (omega arith)
