@@ -60,6 +60,8 @@ def measure(programs, read, m, noise, rounds, folder):
 def main():
     programs, read = sys.argv[1:3], sys.argv[3]
     rounds = int(sys.argv[4]) if len(sys.argv) > 4 else 31
+    # One processor for all, so that no run pays for a move to another.
+    os.sched_setaffinity(0, {max(os.sched_getaffinity(0))})
     print("Three channels beside one: ns a half-cycle of the event programs without their reading, medians [least]")
     with tempfile.TemporaryDirectory() as folder:
         for m in (8, 64, 256):
