@@ -21,7 +21,7 @@ use Rattle.state.specs.Step.{halfDue, halfJoined, whyNot}
 use Rattle.feed.specs.declared.Half.{Half}
 use Rattle.feed.specs.declared.Walked.{Walked}
 
--- a logger and a part that ends its half-cycle
+-- a logger and a part that fits its half-cycle, and is taken as its end
 pub record HalfReady (s : Settings) (t : Scaled) (g : Gatherer) (d : Detector) (a : Sums) (w ms : List ℕ) (p : Part) : Type 0 where
   pub valid : ValidState (stateWith s g d w ms)
   pub scaled-is : t ≡ scaledOf s

@@ -253,7 +253,7 @@ fn worse_record(x: Record, y: Record) -> Record
     }
 }
 
-// The phases of all channels stand under one signal and see one first stand: they end together or not at all.
+// Of a recording, all phases stand under one signal and see one first stand, and so end together or not at all.
 fn worse_ended(x: Ended, y: Ended) -> Ended
     ensures { λ r. ⌜ r ≡ worseEnded x y ⌝ }
 {

@@ -22,7 +22,7 @@ fn chosen(turn: u16, x: i16, y: i16, z: i16) -> i16
 }
 
 // Lays each channel's samples side by side, in an order of their own: a sum of squares and a mark do not depend on it. The block is read as three rows of
-// neighbours, `a.len()` in each, which leaves 1 when divided by three: so the three samples of one column are of three channels, and which is whose goes in
+// neighbours, `a.len()` in each: where that leaves 1 when divided by three, the three samples of one column are of three channels, and which is whose goes in
 // turn. Processors so choose eight samples in one step.
 fn split(block: &[i16], a: &mut [i16], b: &mut [i16], c: &mut [i16])
     requires { ⌜ (length (now block) ≡ 3 * length (now a)) × (length (now a) ≤ 256) × (length (now b) ≡ length (now a))

@@ -36,7 +36,7 @@ fn cut_of(gatherer: Gatherer, half_length: u32, block: &[i16]) -> Share
     gatherer.cut(half_length, &block[..count])
 }
 
-// The end of a walk, with the triples that leave the half-cycle in progress.
+// The end of a walk, with the triples that leave the half-cycle in progress. The lanes are room to work in; what is left there is of no use.
 fn end_walk(
     gatherers: Gatherers,
     joint: Joint,

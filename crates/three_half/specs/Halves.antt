@@ -24,7 +24,7 @@ use Rattle.three_state.specs.ThreeState.{gathererAt, windowsIn, threeWith, Vali
 use Rattle.three_state.specs.ThreeStep.{partAt, withHalves, threeHalfDue, threeHalf, threeWhyNot}
 use Rattle.three_half.specs.declared.Half.{Half}
 
--- a logger, and a part of each channel that ends the half-cycle in progress
+-- a logger, and a part of each channel that fits the half-cycle in progress, and is taken as its end
 pub record HalfReady (s : Settings) (t : Scaled) (g : Gatherers) (j : Joint) (a : JointSums) (ws : Three (List ℕ)) (ms : List ℕ) (p : Parts) : Type 0 where
   pub valid : ValidThree (threeWith s g j ws ms)
   pub scaled-is : t ≡ scaledOf s
