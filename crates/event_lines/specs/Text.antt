@@ -42,7 +42,8 @@ abbrev pub linesOf : ℕ → List ℕ → List ℕ
 linesOf zero records = []
 linesOf (suc n) records = linesOf n records ++ lineOf (eventOf (take recordLength (drop (recordLength * n) records)))
 
--- bytes are put at a place of a text; the text up to there stays, and the place behind them is told
+-- bytes are put at a place of a text; the text before and behind them stays, and the place behind them is told
 pub record Put (text : List ℕ) (at : ℕ) (bytes : List ℕ) (behind : ℕ) (after : List ℕ) : Type 0 where
   pub behind-is : behind ≡ at + length bytes
   pub text-is : take behind after ≡ take at text ++ bytes
+  pub rest-is : drop behind after ≡ drop behind text

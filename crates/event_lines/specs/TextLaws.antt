@@ -1,5 +1,5 @@
 -- The laws of the lines: 01's example, how long a column can be, the digits that `io` makes, text put behind text, and one line more.
-use mathlib.Core.Path.{_≡_, refl, sym, _∙_, ap, subst}
+use mathlib.Core.Path.{_≡_, refl, sym, _∙_, ap, subst, subst⁻¹}
 use mathlib.Core.Bool.{Bool, true, false}
 use mathlib.Core.List.{List, [], _∷_, _++_, append-assoc, append-nil}
 use Prim.Native.Nat.{ℕ, zero, suc, _+_, _-_, _*_, _/_, _%_, _^_, _≤_, _<_}
@@ -7,7 +7,7 @@ use native.Mathlib.Omega.{arith}
 use native.Mathlib.Nat.{pow-suc, one-le-pow, pow-le-pow-right}
 use native.Mathlib.Decide.{decLt}
 use lib.ListN.{length, take, drop, set, getD, length-append, length-drop}
-use lib.Seq.{length-take-le, take-all, take-suc, take-suc-set}
+use lib.Seq.{length-take-le, take-all, take-suc, take-suc-set, drop-drop, drop-set-lt}
 use borrow.Author.Tests.{lt-ltb, le-ltb, eq-eqb, ne-eqb}
 use Rattle.io.specs.Digits.{digits, glyph, Fewest}
 use Rattle.numbers.specs.Notation.{_<ᵇ_, if_then_else_}
@@ -69,36 +69,49 @@ digits-most n k h few = go (decLt 20 k)
         absurd (omega arith)
     go (no f) = omega (arith, f)
 
+-- what is the same from a place on is so from a later one on
+rest-later : (n k : ℕ) (t u : List ℕ) → drop n t ≡ drop n u → drop (n + k) t ≡ drop (n + k) u
+rest-later n k t u e = sym (drop-drop k n t) ∙ ap (λ (l : List ℕ). drop k l) e ∙ drop-drop k n u
+
 -- text behind text
 pub put-put : (t₀ t₁ t₂ : List ℕ) (at b₁ b₂ : ℕ) (xs ys : List ℕ) → Put t₀ at xs b₁ t₁ → Put t₁ b₁ ys b₂ t₂ → Put t₀ at (xs ++ ys) b₂ t₂
 put-put t₀ t₁ t₂ at b₁ b₂ xs ys p q = record {
   behind-is = omega (arith, p .behind-is, q .behind-is, length-append xs ys);
   text-is = q .text-is ∙ ap (λ (t : List ℕ). t ++ ys) (p .text-is) ∙ append-assoc (take at t₀) xs ys;
+  rest-is = q .rest-is ∙ subst⁻¹ (λ (n : ℕ). drop n t₁ ≡ drop n t₀) (q .behind-is) (rest-later b₁ (length ys) t₁ t₀ (p .rest-is));
 }
+
+-- no text
+pub put-nothing : (t : List ℕ) (at : ℕ) → Put t at [] at t
+put-nothing t at = record { behind-is = omega arith; text-is = sym (append-nil (take at t)); rest-is = refl }
 
 -- bytes put one by one: the first i of them stand at the place
 module _ (t₀ : List ℕ) (at : ℕ) (b : List ℕ) where
   abbrev pub PutSoFar : ℕ → List ℕ → Type 0
-  PutSoFar i t = take (at + i) t ≡ take at t₀ ++ take i b
+  PutSoFar i t = (take (at + i) t ≡ take at t₀ ++ take i b) × (drop (at + i) t ≡ drop (at + i) t₀)
 
   pub put-none : PutSoFar 0 t₀
-  put-none = let e : at + 0 ≡ at = omega arith in ap (λ (n : ℕ). take n t₀) e ∙ sym (append-nil (take at t₀))
+  put-none = let e : at + 0 ≡ at = omega arith in (ap (λ (n : ℕ). take n t₀) e ∙ sym (append-nil (take at t₀)), refl)
 
   pub put-one : (i : ℕ) (t : List ℕ) → at + i < length t → i < length b → PutSoFar i t → PutSoFar (i + 1) (set t (at + i) (getD b i 0))
   put-one i t h l e =
       let x : ℕ = getD b i 0 in
       let n : at + (i + 1) ≡ suc (at + i) = omega arith in
       let k : suc i ≡ i + 1 = omega arith in
-      ap (λ (j : ℕ). take j (set t (at + i) x)) n
-      ∙ take-suc-set t (at + i) x h
-      ∙ ap (λ (l : List ℕ). l ++ (x ∷ [])) e
-      ∙ append-assoc (take at t₀) (take i b) (x ∷ [])
-      ∙ ap (λ (l : List ℕ). take at t₀ ++ l) (sym (take-suc b i 0 l) ∙ ap (λ (j : ℕ). take j b) k)
+      let j : at + (i + 1) ≡ at + i + 1 = omega arith in (
+        ap (λ (m : ℕ). take m (set t (at + i) x)) n
+            ∙ take-suc-set t (at + i) x h
+            ∙ ap (λ (l : List ℕ). l ++ (x ∷ [])) (e .0)
+            ∙ append-assoc (take at t₀) (take i b) (x ∷ [])
+            ∙ ap (λ (l : List ℕ). take at t₀ ++ l) (sym (take-suc b i 0 l) ∙ ap (λ (m : ℕ). take m b) k),
+        drop-set-lt (at + (i + 1)) t (at + i) x (omega arith) ∙ subst⁻¹ (λ (m : ℕ). drop m t ≡ drop m t₀) j (rest-later (at + i) 1 t t₀ (e .1)),
+      )
 
   pub put-all : (i : ℕ) (t : List ℕ) → i ≡ length b → PutSoFar i t → Put t₀ at b (at + i) t
   put-all i t whole e = record {
     behind-is = ap (λ (n : ℕ). at + n) whole;
-    text-is = e ∙ ap (λ (l : List ℕ). take at t₀ ++ l) (take-all i b (omega arith));
+    text-is = e .0 ∙ ap (λ (l : List ℕ). take at t₀ ++ l) (take-all i b (omega arith));
+    rest-is = e .1;
   }
 
 -- the same text, said otherwise
@@ -134,13 +147,14 @@ record-length records i h =
     let n : recordLength * i + recordLength - recordLength * i ≡ recordLength = omega arith in
     length-take-le (recordLength * i + recordLength - recordLength * i) (drop (recordLength * i) records) (omega (arith, length-drop (recordLength * i) records)) ∙ n
 
-pub lines-next : (records t u : List ℕ) (i at b : ℕ) (e : Event) → take at t ≡ linesOf i records
+pub lines-next : (records t₀ t u : List ℕ) (i at b : ℕ) (e : Event) → Put t₀ 0 (linesOf i records) at t
     → e ≡ eventOf (take (recordLength * i + recordLength - recordLength * i) (drop (recordLength * i) records))
-    → Put t at (lineOf e) b u → take b u ≡ linesOf (i + 1) records
-lines-next records t u i at b e before is p =
+    → Put t at (lineOf e) b u → Put t₀ 0 (linesOf (i + 1) records) b u
+lines-next records t₀ t u i at b e before is p =
     let n : recordLength * i + recordLength - recordLength * i ≡ recordLength = omega arith in
     let k : suc i ≡ i + 1 = omega arith in
-    p .text-is
-    ∙ (λ j. before j ++ lineOf (is j))
+    put-as _ _ _ _ _ _
+    (ap (λ (x : Event). linesOf i records ++ lineOf x) is
     ∙ ap (λ (l : ℕ). linesOf i records ++ lineOf (eventOf (take l (drop (recordLength * i) records)))) n
-    ∙ ap (λ (l : ℕ). linesOf l records) k
+    ∙ ap (λ (l : ℕ). linesOf l records) k)
+    (put-put t₀ t u 0 at b (linesOf i records) (lineOf e) before p)

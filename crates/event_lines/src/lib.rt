@@ -11,7 +11,7 @@ use streams::Got;
 ghost use mathlib.Core.Path.{_≡_};
 ghost use mathlib.Core.Bool.{_&&_};
 ghost use Prim.Native.Nat.{_+_, _*_, _≤_};
-ghost use lib.ListN.{length, take};
+ghost use lib.ListN.{length};
 ghost use Rattle.io.specs.Counts.{Counts};
 ghost use Rattle.numbers.specs.Notation.{_≡ᵇ_};
 ghost use Rattle.reading.specs.Layout.{recordLength};
@@ -105,7 +105,8 @@ fn put_line(text: &mut [u8], at: usize, event: Event) -> usize
 // The lines of the first records, from the text's start on; tells where they end.
 pub fn put_lines(text: &mut [u8], records: &[u8], count: usize) -> usize
     requires { ⌜ (recordLength * count ≤ length (now records)) × (97 * count ≤ length (now text)) ⌝ }
-    ensures { λ r. ⌜ (r ≤ length (now (text .entry))) × (take r (now (text .exit)) ≡ linesOf count (now (records .entry))) ⌝ }
+    ensures { λ r. ⌜ Put (now (text .entry)) 0 (linesOf count (now (records .entry))) r (now (text .exit)) ⌝ }
+    ensures { λ r. ⌜ r ≤ length (now (text .entry)) ⌝ }
 {
     let mut at = 0;
     let mut i = 0;
@@ -151,6 +152,7 @@ pub fn goes_on(good: bool, got: usize, whole: usize, why: u32) -> bool
 // Prints, unless something was lost before, and tells whether nothing is; a write that fails is told.
 pub fn print(name: &[u8], printed: bool, text: &[u8]) -> bool
     requires { ⌜ length (now name) ≤ 32 ⌝ }
+    ensures { λ r. ⌜ r ≡ (printed && r) ⌝ }
 {
     if !printed {
         return false;

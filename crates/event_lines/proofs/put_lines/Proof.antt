@@ -1,22 +1,22 @@
--- The invariant: the lines of the first i records stand at the text's start, of 97 bytes each at most.
-use mathlib.Core.Path.{_≡_, _∙_, ap}
+-- The invariant: the lines of the first i records are put at the text's start, of 97 bytes each at most.
+use mathlib.Core.Path.{_≡_, ap}
 use Prim.Native.Nat.{ℕ, _-_, _*_, _≤_}
 use native.Mathlib.Omega.{arith}
-use lib.ListN.{length, take}
+use lib.ListN.{length}
 use borrow.Author.Needs.{needs}
-use Rattle.event_lines.specs.Text.{linesOf}
-use Rattle.event_lines.specs.TextLaws.{record-length, lines-next}
+use Rattle.event_lines.specs.Text.{linesOf, Put}
+use Rattle.event_lines.specs.TextLaws.{put-nothing, put-as, record-length, lines-next}
 use Rattle.event_lines.proofs.put_lines.Statement.{statement}
 use Rattle.event_lines.proofs.put_lines.Tie as tie
 
 abbrev Inv-loop : tie.InvT-loop
-Inv-loop text₀ records count at₀ i₀ text at i = (i ≤ count) × (at ≤ 97 * i) × (length text ≡ length text₀) × (take at text ≡ linesOf i records)
+Inv-loop text₀ records count at₀ i₀ text at i = (i ≤ count) × (at ≤ 97 * i) × (length text ≡ length text₀) × Put text₀ 0 (linesOf i records) at text
 
 abbrev μ-loop : tie.MeasureT-loop
 μ-loop text₀ records count at₀ i₀ text at i = count - i
 
 loop-holds : tie.Need-loop-holds Inv-loop μ-loop
-loop-holds c = search needs
+loop-holds c = (search needs, search needs, search needs, put-nothing _ _)
 
 mul-start : tie.Need-mul-start Inv-loop μ-loop
 mul-start c = search needs
@@ -55,7 +55,7 @@ loop-again c =
       search needs,
       search needs,
       search needs,
-      lines-next (start .args .records .now) (loop .text) (call .put-line .last .0) (loop .i) (loop .at) (call .put-line .result) _ (loop .inv .3)
+      lines-next (start .args .records .now) (start .args .text .now) (loop .text) (call .put-line .last .0) (loop .i) (loop .at) (call .put-line .result) _ (loop .inv .3)
           (call .before .before .get-record .ensures) (call .put-line .ensures .0),
     )
 
@@ -66,7 +66,7 @@ returns : tie.Need-returns Inv-loop μ-loop
 returns c =
     let start = c .before .before .before .before in
     let whole : c .before .loop .i ≡ start .args .count = omega arith in
-    (omega arith, c .before .loop .inv .3 ∙ ap (λ (n : ℕ). linesOf n (start .args .records .now)) whole)
+    (put-as _ _ _ _ _ _ (ap (λ (n : ℕ). linesOf n (start .args .records .now)) whole) (c .before .loop .inv .3), omega arith)
 
 pub put-lines-spec : {M : Type 1} → statement M
 put-lines-spec =

@@ -1,4 +1,4 @@
--- The claim is proved in `specs/ClaimProof.antt`.
+-- The claim is proved in `specs/ThreeClaimProof.antt`.
 use Rattle.three_claim.specs.ThreeClaimProof.{three-phases-holds}
 use Rattle.three_claim.proofs.three_phases.Statement.{statement}
 use Rattle.three_claim.proofs.three_phases.Tie as tie

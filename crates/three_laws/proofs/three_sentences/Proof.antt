@@ -1,4 +1,4 @@
--- The sentences are proved in `specs/SentencesProof.antt`.
+-- The sentences are proved in `specs/ThreeSentencesProof.antt`.
 use Rattle.three_laws.specs.ThreeSentencesProof.{sentences-hold}
 use Rattle.three_laws.proofs.three_sentences.Statement.{statement}
 use Rattle.three_laws.proofs.three_sentences.Tie as tie

@@ -1,4 +1,4 @@
--- The bench readings are computed in `specs/BenchProof.antt`.
+-- The bench readings are computed in `specs/ThreeBenchProof.antt`.
 use Rattle.three_reading.specs.ThreeBenchProof.{bench-holds}
 use Rattle.three_reading.proofs.bench_readings.Statement.{statement}
 use Rattle.three_reading.proofs.bench_readings.Tie as tie
