@@ -35,7 +35,9 @@ use Rattle.three_state.specs.ThreeStepValid.{threePart-valid, threeHalf-valid}
 use Rattle.three_state.specs.ThreeFed.{threeFedWith}
 use Rattle.lanes.specs.Lanes.{SquaresFit, PartsAre}
 use Rattle.three_half.specs.declared.Half.{Half}
-use Rattle.three_half.specs.Halves.{HalfReady, HalfOutcome, halfBy, halfOutcome, gatheredBy, halfOf}
+use Rattle.three_half.specs.declared.HalfEnd.{HalfEnd}
+use Rattle.three_half.specs.declared.HalfEnd.the-variants.{Taken, Refused}
+use Rattle.three_half.specs.Halves.{HalfReady, HalfOutcome, halfBy, halfOutcome, halfOf, WhySaid, HalfIs}
 use Rattle.three_feed.specs.declared.ThreeWalked.{ThreeWalked}
 use Rattle.three_feed.specs.Feed.{walkedOf, walkedWith, RoomFor}
 use Rattle.three_feed.proofs.EachPart.{count-at, parts-fit}
@@ -249,8 +251,8 @@ module _ {s : Settings} {ws₀ : Three (List ℕ)} {ms₀ : List ℕ} {block : L
       }
 
       -- what `complete` gave, on the buffer behind the records written before
-      module _ {h : Half} {ws₁ : Three (List ℕ)} {ms₁ part : List ℕ}
-          (is : halfOf s (gatheredBy (h .why) g q) h ws₁ ms₁ part ≡ halfOutcome st q (take (length out - behind) (drop behind out))) where
+      module _ {r : HalfEnd} {ws₁ : Three (List ℕ)} {ms₁ part : List ℕ}
+          (is : HalfIs s g j sums q r ws₁ ms₁ part (halfOutcome st q (take (length out - behind) (drop behind out)))) where
         abbrev back : List ℕ
         back = putMid behind (length out - behind) out part
 
@@ -260,25 +262,23 @@ module _ {s : Settings} {ws₀ : Three (List ℕ)} {ms₀ : List ℕ} {block : L
         room-is : room (drop behind out) ≡ left
         room-is = omega (arith, length-drop behind out, inv .so-far .fits, inv .long)
 
-        abbrev outcome : HalfOutcome
-        outcome = halfOf s (gatheredBy (h .why) g q) h ws₁ ms₁ part
+        abbrev outcome : HalfEnd → HalfOutcome
+        outcome ended = halfOf s g j sums q ended ws₁ ms₁ part
 
-        given : outcome ≡ halfBy (threeWhyNot st p left) st p (drop behind out)
+        given : outcome r ≡ halfBy (threeWhyNot st p left) st p (drop behind out)
         unfolding halfOutcome
-        given = is ∙ (λ i. halfOutcome st (q-is i) (lent-behind behind out i)) ∙ ap (λ (k : ℕ). halfBy (threeWhyNot st p k) st p (drop behind out)) room-is
+        given = is .outcome-is ∙ (λ i. halfOutcome st (q-is i) (lent-behind behind out i)) ∙ ap (λ (k : ℕ). halfBy (threeWhyNot st p k) st p (drop behind out)) room-is
 
         -- it is taken
-        module _ (none : h .why ≡ 0) {g₁ : Gatherers} (halves-are : g₁ ≡ withHalves g q) where
+        module _ {h : Half} (r-is : r ≡ Taken h) {g₁ : Gatherers} (halves-are : g₁ ≡ withHalves g q) where
           abbrev after : ThreeState
           after = threeWith s g₁ (h .joint) ws₁ ms₁
 
-          took : (threeWhyNot st p left ≡ 0) × (outcome ≡ halfBy 0 st p (drop behind out))
-          took = half-taken (threeWhyNot st p left) outcome st p (drop behind out) given none
+          took : (threeWhyNot st p left ≡ 0) × (outcome (Taken h) ≡ halfBy 0 st p (drop behind out))
+          took = half-taken (threeWhyNot st p left) (outcome (Taken h)) st p (drop behind out) (sym (ap outcome r-is) ∙ given) refl
 
           after-is : threeHalf st p ≡ after
-          after-is =
-              sym (ap (λ (o : HalfOutcome). o .after) (took .1)) ∙ (λ i. threeWith s (gatheredBy (none i) g q) (h .joint) ws₁ ms₁)
-              ∙ sym (ap (λ (k : Gatherers). threeWith s k (h .joint) ws₁ ms₁) halves-are)
+          after-is = sym (ap (λ (o : HalfOutcome). o .after) (took .1)) ∙ sym (ap (λ (k : Gatherers). threeWith s k (h .joint) ws₁ ms₁) halves-are)
 
           written-is : length (threeHalfDue st p) ≡ h .written
           written-is = sym (ap (λ (o : HalfOutcome). o .written) (took .1))
@@ -310,16 +310,17 @@ module _ {s : Settings} {ws₀ : Three (List ℕ)} {ms₀ : List ℕ} {block : L
               lanes-long (same-records part kept) whole-triples
 
         -- it is not
-        pub walk-stops : 0 < h .why → (last : ThreeWalked) →
-            WalkEnds g j (triplesOf (take (3 * (from + n - 1) - 3 * from) (drop (3 * from) block))) (from + n - 1) written (h .why) last →
+        pub walk-stops : (why : ℕ) → r ≡ Refused why → (last : ThreeWalked) →
+            WalkEnds g j (triplesOf (take (3 * (from + n - 1) - 3 * from) (drop (3 * from) block))) (from + n - 1) written why last →
             WalkIs st₀ xs lent s ws₁ ms₁ last back
-        walk-stops some last ended =
-            let stopped = half-refused (threeWhyNot st p left) outcome st p (drop behind out) given some in
+        walk-stops why r-is last ended =
+            let some : 0 < why = subst WhySaid r-is (is .why-said) in
+            let stopped = half-refused (threeWhyNot st p left) (outcome (Refused why)) st p (drop behind out) (sym (ap outcome r-is) ∙ given) some in
             let some-in : 0 < n = share-some in
             let long : length (take (n - 1) rest) ≡ n - 1 = part-long from (n - 1) xs (omega (arith, inv .share-in)) in
-            walk-last last (take (n - 1) rest) _ (from + n - 1) (h .why) ws₁ ms₁ back ended (triples-between from (n - 1) (from + n - 1) block (omega arith))
+            walk-last last (take (n - 1) rest) _ (from + n - 1) why ws₁ ms₁ back ended (triples-between from (n - 1) (from + n - 1) block (omega arith))
             (omega (arith, inv .within .fits)) (ap windowsIn (stopped .1)) (ap (λ (z : ThreeState). z .marks) (stopped .1)) (n - 1) (omega arith)
-            (feed-stops threeCuts st rest left (inv .so-far .valid .gatherer-valid onA .0) share (inv .cut-is) completes (h .why) (stopped .0) some)
+            (feed-stops threeCuts st rest left (inv .so-far .valid .gatherer-valid onA .0) share (inv .cut-is) completes why (stopped .0) some)
             (back-is ∙ ap (λ (l : List ℕ). take behind out ++ l) (stopped .2))
 
   -- none ends

@@ -6,6 +6,7 @@ use records::RECORD_LENGTH;
 use rms::Gatherer;
 use rms::Share;
 use settings::Settings;
+use three_half::HalfEnd;
 use three_state::Gatherers;
 ghost use mathlib.Core.Path.{_≡_};
 ghost use Prim.Native.Nat.{_/_, _%_, _<_};
@@ -114,7 +115,7 @@ pub fn walk(
         let stop = 3 * end;
         let behind = RECORD_LENGTH * written;
         let parts = lanes::parts_of(&block[start..stop], &mut lane_a, &mut lane_b, &mut lane_c);
-        let half = three_half::complete(
+        let ended = three_half::complete(
             settings,
             scaled,
             g,
@@ -127,29 +128,33 @@ pub fn walk(
             parts,
             &mut records[behind..],
         );
-        if 0 < half.why {
-            let taken = end - 1;
-            let rest = 3 * taken;
-            return end_walk(
-                g,
-                kept,
-                &block[start..rest],
-                &mut lane_a,
-                &mut lane_b,
-                &mut lane_c,
-                taken,
-                written,
-                half.why,
-            );
+        match ended {
+            HalfEnd::Refused(why) => {
+                let taken = end - 1;
+                let rest = 3 * taken;
+                return end_walk(
+                    g,
+                    kept,
+                    &block[start..rest],
+                    &mut lane_a,
+                    &mut lane_b,
+                    &mut lane_c,
+                    taken,
+                    written,
+                    why,
+                );
+            }
+            HalfEnd::Taken(half) => {
+                // Made again: carried through `complete`, the gatherers would be copied once more at every half-cycle.
+                g = three_half::halves_of(g, parts);
+                kept = half.joint;
+                sums = half.sums;
+                written += half.written;
+                at = end;
+                let own = g.a;
+                share = cut_of(own, half_length, &block[stop..]);
+            }
         }
-        // Made again: carried through `complete`, the gatherers would be copied once more at every half-cycle.
-        g = three_half::halves_of(g, parts);
-        kept = half.joint;
-        sums = half.sums;
-        written += half.written;
-        at = end;
-        let own = g.a;
-        share = cut_of(own, half_length, &block[stop..]);
     }
     let start = 3 * at;
     end_walk(

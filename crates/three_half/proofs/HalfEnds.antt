@@ -32,8 +32,8 @@ use Rattle.three_state.specs.declared.ThreeState.{ThreeState}
 use Rattle.three_state.specs.ThreeState.{gathererAt, windowsIn, threeWith}
 use Rattle.three_state.specs.ThreeStep.{withJoints, dueOnThree, withGatherers, partAt, withHalves, valuesWith, valuesOut}
 use Rattle.three_state.specs.ThreeStep.{threePasses, threeHalfDue, threeHalf, threeWhyNot}
-use Rattle.three_half.specs.declared.Half.{Half}
-use Rattle.three_half.specs.Halves.{HalfReady, halfBy, halfOutcome, refusedHalf, gatheredBy, halfOf, ValuesReady, valuesBy}
+use Rattle.three_half.specs.declared.HalfEnd.the-variants.{Taken, Refused}
+use Rattle.three_half.specs.Halves.{HalfReady, halfBy, halfOutcome, HalfIs, ValuesReady, valuesBy}
 use Rattle.three_half.specs.HalvesLaws.{sum-at}
 
 half-at : (c : Channel) (g : Gatherers) (p : Parts) → gathererAt c (withHalves g p) ≡ withHalf (gathererAt c g) (partAt c p)
@@ -70,28 +70,36 @@ module _ {s : Settings} {t : Scaled} {g : Gatherers} {j : Joint} {a : JointSums}
 
   module _ (lent : List ℕ) where
     -- a half-cycle that is not taken
-    refused : (y : ℕ) → threeWhyNot st p (room lent) ≡ suc y → (h : Half) → h ≡ refusedHalf j a (suc y) →
-        halfOf s (gatheredBy (h .why) g p) h ws ms lent ≡ halfOutcome st p lent
+    abbrev NotTaken : ℕ → Type 0
+    NotTaken why = HalfIs s g j a p (Refused why) ws ms lent (halfOutcome st p lent)
+
+    refused : (y : ℕ) → threeWhyNot st p (room lent) ≡ suc y → NotTaken (suc y)
     unfolding halfOutcome
-    refused y why h is =
-        ap (λ (k : Half). halfOf s (gatheredBy (k .why) g p) k ws ms lent) is
-        ∙ (λ i. record { after = st; sums = pre .sums-are i; written = 0; why = suc y; bytes = lent })
-        ∙ sym (ap (λ (k : ℕ). halfBy k st p lent) why)
+    refused y why = record {
+      outcome-is =
+          (λ i. record { after = st; sums = pre .sums-are i; written = 0; why = suc y; bytes = lent })
+          ∙ sym (ap (λ (k : ℕ). halfBy k st p lent) why);
+      why-said = omega arith;
+    }
 
     -- one that is
-    abbrev Taken : Joint → JointSums → ℕ → Three (List ℕ) → List ℕ → List ℕ → Type 0
-    Taken j₁ sums written ws₁ ms₁ out =
-        halfOf s (withHalves g p) (record { joint = j₁; sums = sums; written = written; why = 0 }) ws₁ ms₁ out ≡ halfOutcome st p lent
+    abbrev IsTaken : Joint → JointSums → ℕ → Three (List ℕ) → List ℕ → List ℕ → Type 0
+    IsTaken j₁ sums written ws₁ ms₁ out =
+        HalfIs s g j a p (Taken (record { joint = j₁; sums = sums; written = written })) ws₁ ms₁ out (halfOutcome st p lent)
 
     taken : (j₁ : Joint) (sums : JointSums) (written : ℕ) (ws₁ : Three (List ℕ)) (ms₁ out : List ℕ) → threeWhyNot st p (room lent) ≡ 0 →
         threeWith s (withHalves g p) j₁ ws₁ ms₁ ≡ threeHalf st p → sums ≡ jointSumsOf ws₁ ms₁ → written ≡ length (threeHalfDue st p) →
-        out ≡ over (recordBytes (threeHalfDue st p)) lent → Taken j₁ sums written ws₁ ms₁ out
+        out ≡ over (recordBytes (threeHalfDue st p)) lent → IsTaken j₁ sums written ws₁ ms₁ out
     unfolding halfOutcome
     taken j₁ sums written ws₁ ms₁ out why after-is sums-are written-is bytes-are =
         let sums-is : sums ≡ jointSumsOf (windowsIn (threeHalf st p)) (threeHalf st p .marks) =
         sums-are ∙ ap (λ (z : ThreeState). jointSumsOf (windowsIn z) (z .marks)) after-is in
-        (λ i. record { after = after-is i; sums = sums-is i; written = written-is i; why = 0; bytes = bytes-are i })
-        ∙ sym (ap (λ (k : ℕ). halfBy k st p lent) why)
+        record {
+          outcome-is =
+              (λ i. record { after = after-is i; sums = sums-is i; written = written-is i; why = 0; bytes = bytes-are i })
+              ∙ sym (ap (λ (k : ℕ). halfBy k st p lent) why);
+          why-said = tt;
+        }
 
     -- what V's end and the room tell
     why-is : (past full : Bool) → threePasses st p ≡ past → (room lent <ᵇ length (threeHalfDue st p)) ≡ full →
@@ -102,7 +110,7 @@ module _ {s : Settings} {t : Scaled} {g : Gatherers} {j : Joint} {a : JointSums}
     out-by e = λ i. if e i then valuesWith (s .samples) g p ∷ [] else []
 
     -- the first half-cycle
-    pub first-half : g .a .whole ≡ false → Taken j a 0 ws ms lent
+    pub first-half : g .a .whole ≡ false → IsTaken j a 0 ws ms lent
     unfolding threePasses threeHalfDue threeHalf
     first-half first =
         let none : valuesOut st p ≡ [] = out-by first in
@@ -117,12 +125,12 @@ module _ {s : Settings} {t : Scaled} {g : Gatherers} {j : Joint} {a : JointSums}
     -- another one gives a value of each channel
     module _ (whole : g .a .whole ≡ true) where
       -- V is at its end
-      pub end-half : j .count ≡ lastValue → (h : Half) → h ≡ refusedHalf j a 2 → halfOf s (gatheredBy (h .why) g p) h ws ms lent ≡ halfOutcome st p lent
+      pub end-half : j .count ≡ lastValue → NotTaken 2
       unfolding threePasses
-      end-half c h is =
+      end-half c =
           let past : threePasses st p ≡ true =
           ap (λ (vs : List Values). lastValue <ᵇ length vs + j .count) (out-by whole) ∙ lt-ltb lastValue (1 + j .count) (omega arith) in
-          refused 1 (why-is true _ past refl) h is
+          refused 1 (why-is true _ past refl)
 
       module _ (more : j .count ≡ lastValue → ⊥) (halves : Gatherers) (are : halves ≡ withHalves g p) (x : Values)
           (x-is : x ≡ valuesBy (s .samples) g halves) where
@@ -147,13 +155,13 @@ module _ {s : Settings} {t : Scaled} {g : Gatherers} {j : Joint} {a : JointSums}
           room-test full e = why-is false full not-end (ap (λ (k : ℕ). room lent <ᵇ k) (sym written-is) ∙ e)
 
           -- its records do not fit
-          pub full-half : room lent < written → (h : Half) → h ≡ refusedHalf j a 1 → halfOf s (gatheredBy (h .why) g p) h ws ms lent ≡ halfOutcome st p lent
-          full-half few h is = refused 0 (room-test true (lt-ltb (room lent) written few)) h is
+          pub full-half : room lent < written → NotTaken 1
+          full-half few = refused 0 (room-test true (lt-ltb (room lent) written few))
 
           -- it is taken
           pub taken-half : written ≤ room lent → (n mark : ℕ) → n ≡ windowLength s → mark ≡ flag (x .clipped) → (ws₁ : Three (List ℕ)) (ms₁ out : List ℕ) →
               ws₁ ≡ pushedAll n (j .count) ws (sizesOf x) → ms₁ ≡ pushed n (j .count) ms mark → out ≡ over (recordBytes (recordsOf (tried .due))) lent →
-              Taken (tried .after) (tried .sums) written ws₁ ms₁ out
+              IsTaken (tried .after) (tried .sums) written ws₁ ms₁ out
           unfolding threeHalf
           taken-half fits n mark n-is mark-is ws₁ ms₁ out pushed-all pushed-mark bytes-are =
               let windows-are : ws₁ ≡ pushedAll (windowLength s) (j .count) ws (sizesOf x) = pushed-all ∙ (λ i. pushedAll (n-is i) (j .count) ws (sizesOf x)) in

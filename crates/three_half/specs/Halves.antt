@@ -22,7 +22,8 @@ use Rattle.three_state.specs.declared.Parts.{Parts}
 use Rattle.three_state.specs.declared.ThreeState.{ThreeState}
 use Rattle.three_state.specs.ThreeState.{gathererAt, windowsIn, threeWith, ValidThree}
 use Rattle.three_state.specs.ThreeStep.{partAt, withHalves, threeHalfDue, threeHalf, threeWhyNot}
-use Rattle.three_half.specs.declared.Half.{Half}
+use Rattle.three_half.specs.declared.HalfEnd.{HalfEnd}
+use Rattle.three_half.specs.declared.HalfEnd.the-variants.{Taken, Refused}
 
 -- a logger, and a part of each channel that fits the half-cycle in progress, and is taken as its end
 pub record HalfReady (s : Settings) (t : Scaled) (g : Gatherers) (j : Joint) (a : JointSums) (ws : Three (List ℕ)) (ms : List ℕ) (p : Parts) : Type 0 where
@@ -53,17 +54,22 @@ halfBy (suc y) st p lent = record { after = st; sums = jointSumsOf (windowsIn st
 unfoldable pub halfOutcome : ThreeState → Parts → List ℕ → HalfOutcome
 halfOutcome st p lent = halfBy (threeWhyNot st p (room lent)) st p lent
 
--- the same of what the code leaves
-abbrev pub refusedHalf : Joint → JointSums → ℕ → Half
-refusedHalf j sums why = record { joint = j; sums = sums; written = 0; why = why }
+-- the same of what the code gives, by each case of its enum: where it is not taken, what was before stays
+abbrev pub halfOf : Settings → Gatherers → Joint → JointSums → Parts → HalfEnd → Three (List ℕ) → List ℕ → List ℕ → HalfOutcome
+halfOf s g j sums p (Taken h) ws ms out =
+    record { after = threeWith s (withHalves g p) (h .joint) ws ms; sums = h .sums; written = h .written; why = 0; bytes = out }
+halfOf s g j sums p (Refused why) ws ms out = record { after = threeWith s g j ws ms; sums = sums; written = 0; why = why; bytes = out }
 
--- the gatherers after it, by why it was not taken
-abbrev pub gatheredBy : ℕ → Gatherers → Parts → Gatherers
-gatheredBy zero g p = withHalves g p
-gatheredBy (suc y) g p = g
+-- 0 is not why
+abbrev pub WhySaid : HalfEnd → Type 0
+WhySaid (Taken h) = Unit {0}
+WhySaid (Refused why) = 0 < why
 
-abbrev pub halfOf : Settings → Gatherers → Half → Three (List ℕ) → List ℕ → List ℕ → HalfOutcome
-halfOf s g h ws ms out = record { after = threeWith s g (h .joint) ws ms; sums = h .sums; written = h .written; why = h .why; bytes = out }
+-- what the code gives is an outcome
+pub record HalfIs (s : Settings) (g : Gatherers) (j : Joint) (sums : JointSums) (p : Parts) (end : HalfEnd) (ws : Three (List ℕ)) (ms out : List ℕ)
+    (o : HalfOutcome) : Type 0 where
+  pub outcome-is : halfOf s g j sums p end ws ms out ≡ o
+  pub why-said : WhySaid end
 
 -- a part more leaves a sum within 64 bits
 abbrev pub SumsFit : Gatherers → Parts → Type 0

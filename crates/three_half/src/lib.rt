@@ -16,15 +16,19 @@ ghost use Rattle.reading.specs.Values.{rms};
 ghost use Rattle.joint.specs.Joint.{threeOf, sizesOf, Small3, pushedAll};
 ghost use Rattle.three_state.specs.ThreeState.{threeWith};
 ghost use Rattle.three_state.specs.ThreeStep.{withHalves};
-ghost use Rattle.three_half.specs.Halves.{HalfReady, refusedHalf, gatheredBy, halfOf, halfOutcome, SumsFit, ValuesReady, valuesBy};
+ghost use Rattle.three_half.specs.Halves.{HalfReady, halfOutcome, HalfIs, SumsFit, ValuesReady, valuesBy};
 
-// What the end of a half-cycle leaves of the logger beside the gatherers and the windows, the windows' sums, how many records were written, and why it was not
-// taken, or 0.
+// What the end of a half-cycle leaves of the logger beside the gatherers and the windows, the windows' sums, and how many records were written.
 pub struct Half {
     pub joint: Joint,
     pub sums: JointSums,
     pub written: usize,
-    pub why: u32,
+}
+
+// It is taken; or it is not, and why: then nothing is changed, and what stays as it was is not handed back, where it would be copied at every half-cycle.
+pub enum HalfEnd {
+    Taken(Half),
+    Refused(u32),
 }
 
 // The value that ends with a half-cycle of one channel, sought near the value before.
@@ -105,18 +109,6 @@ fn push_values(
     window::push(c, window_length, count, values.c);
 }
 
-// Nothing is changed, and why.
-fn refused(joint: Joint, sums: JointSums, why: u32) -> Half
-    ensures { λ h. ⌜ h ≡ refusedHalf joint sums why ⌝ }
-{
-    Half {
-        joint,
-        sums,
-        written: 0,
-        why,
-    }
-}
-
 // A part of each channel ends the half-cycle in progress. Nothing changes where V would pass its end or the records do not fit.
 pub fn complete(
     settings: Settings,
@@ -130,34 +122,33 @@ pub fn complete(
     marks: &mut [u8],
     parts: Parts,
     records: &mut [u8],
-) -> Half
+) -> HalfEnd
     requires { ⌜ HalfReady settings scaled gatherers joint sums (threeOf (now a) (now b) (now c)) (now marks) parts ⌝ }
-    ensures { λ h. ⌜ halfOf settings (gatheredBy (h .why) gatherers parts) h
+    ensures { λ r. ⌜ HalfIs settings gatherers joint sums parts r
         (threeOf (now (a .exit)) (now (b .exit)) (now (c .exit))) (now (marks .exit)) (now (records .exit))
-        ≡ halfOutcome (threeWith settings gatherers joint (threeOf (now (a .entry)) (now (b .entry)) (now (c .entry))) (now (marks .entry)))
-        parts (now (records .entry)) ⌝ }
+        (halfOutcome (threeWith settings gatherers joint (threeOf (now (a .entry)) (now (b .entry)) (now (c .entry))) (now (marks .entry)))
+        parts (now (records .entry))) ⌝ }
 {
     let halves = halves_of(gatherers, parts);
     let own = gatherers.a;
     let whole = own.whole;
     if !whole {
-        return Half {
+        return HalfEnd::Taken(Half {
             joint,
             sums,
             written: 0,
-            why: 0,
-        };
+        });
     }
     let count = joint.count;
     if count == Detector::LAST_VALUE {
-        return refused(joint, sums, 2);
+        return HalfEnd::Refused(2);
     }
     let values = values_of(settings, gatherers, halves, a, b, c, count);
     let tried = joint.try_values(settings, scaled, a, b, c, marks, sums, values);
     let due = tried.due;
     let written = due.count();
     if records.len() / RECORD_LENGTH < written {
-        return refused(joint, sums, 1);
+        return HalfEnd::Refused(1);
     }
     let length = settings.window_length() as usize;
     push_values(length, count as usize, a, b, c, values);
@@ -171,10 +162,9 @@ pub fn complete(
     due.put(records);
     let after = tried.after;
     let sums_after = tried.sums;
-    Half {
+    HalfEnd::Taken(Half {
         joint: after,
         sums: sums_after,
         written,
-        why: 0,
-    }
+    })
 }

@@ -161,16 +161,19 @@ complete-requires c κs =
     let at-scaled = turn .before .before .before .before .before .before .before .before .before .before .before in
     complete-ready (turn .loop .inv) (tested .loop-test .taken) (at-parts .parts-of .ensures .0) (at-scaled .scaled .result) (at-scaled .scaled .ensures)
 
+enum-known-ended : tie.Need-enum-known-ended Inv-loop μ-loop
+enum-known-ended c = search needs
+
 sub-taken : tie.Need-sub-taken Inv-loop μ-loop
 sub-taken c =
-    let at-complete = c .before .before .before .before .before .before .before .before .before .before .before .before in
+    let at-complete = c .before .before .before .before .before .before .before .before .before .before .before .before .before in
     let tested = at-complete .before .before .before .before .before .before .before .before .before .before .before .before .before .before .before in
     let turn = tested .before in
     omega (arith, share-some (turn .loop .inv) (tested .loop-test .taken))
 
 mul-rest : tie.Need-mul-rest Inv-loop μ-loop
 mul-rest c =
-    let at-complete = c .before .before .before .before .before .before .before .before .before .before .before .before in
+    let at-complete = c .before .before .before .before .before .before .before .before .before .before .before .before .before in
     let turn = at-complete .before .before .before .before .before .before .before .before .before .before .before .before .before .before .before .before in
     let at-scaled = turn .before .before .before .before .before .before .before .before .before .before .before in
     let start = at-scaled .before .before .before .before .before .before in
@@ -178,7 +181,7 @@ mul-rest c =
 
 mul-end-walk : tie.Need-mul-end-walk Inv-loop μ-loop
 mul-end-walk c =
-    let at-complete = c .before .before .before .before .before .before .before .before .before .before .before .before in
+    let at-complete = c .before .before .before .before .before .before .before .before .before .before .before .before .before in
     let turn = at-complete .before .before .before .before .before .before .before .before .before .before .before .before .before .before .before .before in
     let at-scaled = turn .before .before .before .before .before .before .before .before .before .before .before in
     let start = at-scaled .before .before .before .before .before .before in
@@ -186,14 +189,14 @@ mul-end-walk c =
 
 sub-end-walk : tie.Need-sub-end-walk Inv-loop μ-loop
 sub-end-walk c =
-    let at-complete = c .before .before .before .before .before .before .before .before .before .before .before .before in
+    let at-complete = c .before .before .before .before .before .before .before .before .before .before .before .before .before in
     let tested = at-complete .before .before .before .before .before .before .before .before .before .before .before .before .before .before .before in
     let turn = tested .before in
     omega (arith, share-some (turn .loop .inv) (tested .loop-test .taken))
 
 part-end-walk-start : tie.Need-part-end-walk-start Inv-loop μ-loop
 part-end-walk-start c =
-    let at-complete = c .before .before .before .before .before .before .before .before .before .before .before .before in
+    let at-complete = c .before .before .before .before .before .before .before .before .before .before .before .before .before in
     let tested = at-complete .before .before .before .before .before .before .before .before .before .before .before .before .before .before .before in
     let turn = tested .before in
     let l = turn .loop in
@@ -202,7 +205,7 @@ part-end-walk-start c =
 
 part-end-walk-end : tie.Need-part-end-walk-end Inv-loop μ-loop
 part-end-walk-end c =
-    let at-complete = c .before .before .before .before .before .before .before .before .before .before .before .before in
+    let at-complete = c .before .before .before .before .before .before .before .before .before .before .before .before .before in
     let turn = at-complete .before .before .before .before .before .before .before .before .before .before .before .before .before .before .before .before in
     let at-scaled = turn .before .before .before .before .before .before .before .before .before .before .before in
     let start = at-scaled .before .before .before .before .before .before in
@@ -212,21 +215,21 @@ part-end-walk-end c =
 
 slice-aggregate-end-walk : tie.Need-slice-aggregate-end-walk Inv-loop μ-loop
 slice-aggregate-end-walk c =
-    let at-complete = c .before .before .before .before .before .before .before .before .before .before .before .before .before .before in
+    let at-complete = c .before .before .before .before .before .before .before .before .before .before .before .before .before .before .before in
     let at-parts = at-complete .before .before .before .before .before .before .before .before .before in
     let turn = at-parts .before .before .before .before .before .before .before in
     sym (at-parts .parts-of .kept .1 .0 ∙ turn .loop .inv .lanes-long onA)
 
 slice-aggregate-end-walk-2 : tie.Need-slice-aggregate-end-walk-2 Inv-loop μ-loop
 slice-aggregate-end-walk-2 c =
-    let at-complete = c .before .before .before .before .before .before .before .before .before .before .before .before .before .before .before in
+    let at-complete = c .before .before .before .before .before .before .before .before .before .before .before .before .before .before .before .before in
     let at-parts = at-complete .before .before .before .before .before .before .before .before .before in
     let turn = at-parts .before .before .before .before .before .before .before in
     sym (at-parts .parts-of .kept .1 .1 .0 ∙ turn .loop .inv .lanes-long onB)
 
 slice-aggregate-end-walk-3 : tie.Need-slice-aggregate-end-walk-3 Inv-loop μ-loop
 slice-aggregate-end-walk-3 c =
-    let first = c .before .before .before .before in
+    let first = c .before .before .before .before .before in
     let at-complete = first .before .before .before .before .before .before .before .before .before .before .before .before in
     let at-parts = at-complete .before .before .before .before .before .before .before .before .before in
     let turn = at-parts .before .before .before .before .before .before .before in
@@ -234,7 +237,7 @@ slice-aggregate-end-walk-3 c =
 
 end-walk-requires : tie.Need-end-walk-requires Inv-loop μ-loop
 end-walk-requires c κs =
-    let first = c .before .before .before .before in
+    let first = c .before .before .before .before .before in
     let at-complete = first .before .before .before .before .before .before .before .before .before .before .before .before in
     let at-parts = at-complete .before .before .before .before .before .before .before .before .before in
     let tested = at-parts .before .before .before .before .before .before in
@@ -246,7 +249,7 @@ end-walk-requires c κs =
 
 same-length : tie.Need-same-length Inv-loop μ-loop
 same-length c =
-    let first = c .before .before .before .before .before .before .before .before in
+    let first = c .before .before .before .before .before .before .before .before .before in
     let at-complete = first .before .before .before .before .before .before .before .before .before .before .before .before in
     let turn = at-complete .before .before .before .before .before .before .before .before .before .before .before .before .before .before .before .before in
     let at-scaled = turn .before .before .before .before .before .before .before .before .before .before .before in
@@ -255,7 +258,7 @@ same-length c =
 
 same-length-2 : tie.Need-same-length-2 Inv-loop μ-loop
 same-length-2 c =
-    let first = c .before .before .before .before .before .before .before .before in
+    let first = c .before .before .before .before .before .before .before .before .before in
     let at-complete = first .before .before .before .before .before .before .before .before .before .before .before .before in
     let turn = at-complete .before .before .before .before .before .before .before .before .before .before .before .before .before .before .before .before in
     let at-scaled = turn .before .before .before .before .before .before .before .before .before .before .before in
@@ -264,7 +267,7 @@ same-length-2 c =
 
 same-length-3 : tie.Need-same-length-3 Inv-loop μ-loop
 same-length-3 c =
-    let first = c .before .before .before .before .before .before .before .before in
+    let first = c .before .before .before .before .before .before .before .before .before in
     let at-complete = first .before .before .before .before .before .before .before .before .before .before .before .before in
     let turn = at-complete .before .before .before .before .before .before .before .before .before .before .before .before .before .before .before .before in
     let at-scaled = turn .before .before .before .before .before .before .before .before .before .before .before in
@@ -273,7 +276,7 @@ same-length-3 c =
 
 same-length-4 : tie.Need-same-length-4 Inv-loop μ-loop
 same-length-4 c =
-    let first = c .before .before .before .before .before .before .before .before in
+    let first = c .before .before .before .before .before .before .before .before .before in
     let at-complete = first .before .before .before .before .before .before .before .before .before .before .before .before in
     let turn = at-complete .before .before .before .before .before .before .before .before .before .before .before .before .before .before .before .before in
     let at-scaled = turn .before .before .before .before .before .before .before .before .before .before .before in
@@ -282,7 +285,7 @@ same-length-4 c =
 
 same-length-5 : tie.Need-same-length-5 Inv-loop μ-loop
 same-length-5 c =
-    let first = c .before .before .before .before .before .before .before .before in
+    let first = c .before .before .before .before .before .before .before .before .before in
     let at-complete = first .before .before .before .before .before .before .before .before .before .before .before .before in
     let turn = at-complete .before .before .before .before .before .before .before .before .before .before .before .before .before .before .before .before in
     let half = at-complete .complete in
@@ -291,17 +294,20 @@ same-length-5 c =
 returns : tie.Need-returns Inv-loop μ-loop
 returns c =
     let at-end = c .before .before .before in
-    let first = at-end .before .before .before .before .before in
+    let first = at-end .before .before .before .before .before .before in
     let at-complete = first .before .before .before .before .before .before .before .before .before .before .before .before in
     let at-parts = at-complete .before .before .before .before .before .before .before .before .before in
     let tested = at-parts .before .before .before .before .before .before in
     let turn = tested .before in
-    walk-stops (turn .loop .inv) (tested .loop-test .taken) (at-parts .parts-of .ensures .0) (at-complete .complete .ensures) (first .if1 .taken)
+    walk-stops (turn .loop .inv) (tested .loop-test .taken) (at-parts .parts-of .ensures .0) (at-complete .complete .ensures) _ (first .ended .given .1)
     (at-end .end-walk .result) (at-end .end-walk .ensures)
+
+enum-known-ended-2 : tie.Need-enum-known-ended-2 Inv-loop μ-loop
+enum-known-ended-2 c = search needs
 
 halves-of-requires : tie.Need-halves-of-requires Inv-loop μ-loop
 halves-of-requires c κs =
-    let at-complete = c .before .before .before .before .before .before .before .before .before .before .before .before in
+    let at-complete = c .before .before .before .before .before .before .before .before .before .before .before .before .before in
     let at-parts = at-complete .before .before .before .before .before .before .before .before .before in
     let tested = at-parts .before .before .before .before .before .before in
     let turn = tested .before in
@@ -312,7 +318,7 @@ halves-of-requires c κs =
 add-written : tie.Need-add-written Inv-loop μ-loop
 add-written c =
     let at-halves = c .before .before .before in
-    let first = at-halves .before in
+    let first = at-halves .before .before in
     let at-complete = first .before .before .before .before .before .before .before .before .before .before .before .before in
     let at-parts = at-complete .before .before .before .before .before .before .before .before .before in
     let tested = at-parts .before .before .before .before .before .before in
@@ -322,13 +328,13 @@ add-written c =
     let l = turn .loop in
     let half = at-complete .complete in
     let fits = taken-fits (turn .loop .inv) (tested .loop-test .taken) (at-parts .parts-of .ensures .0) (half .ensures)
-    (omega (arith, first .if1 .left)) (at-halves .halves-of .ensures) in
-    let h : l .written + half .result .written < 2 ^ 64 = omega (arith, fits, start .good) in
+    (first .ended2 .given .1) (at-halves .halves-of .ensures) in
+    let h : l .written + first .ended2 .given .0 .0 .written < 2 ^ 64 = omega (arith, fits, start .good) in
     record { fits = h }
 
 mul-cut-of : tie.Need-mul-cut-of Inv-loop μ-loop
 mul-cut-of c =
-    let first = c .before .before .before .before .before in
+    let first = c .before .before .before .before .before .before in
     let at-complete = first .before .before .before .before .before .before .before .before .before .before .before .before in
     let turn = at-complete .before .before .before .before .before .before .before .before .before .before .before .before .before .before .before .before in
     let at-scaled = turn .before .before .before .before .before .before .before .before .before .before .before in
@@ -337,14 +343,14 @@ mul-cut-of c =
 
 sub-cut-of : tie.Need-sub-cut-of Inv-loop μ-loop
 sub-cut-of c =
-    let first = c .before .before .before .before .before in
+    let first = c .before .before .before .before .before .before in
     let at-complete = first .before .before .before .before .before .before .before .before .before .before .before .before in
     let turn = at-complete .before .before .before .before .before .before .before .before .before .before .before .before .before .before .before .before in
     omega (arith, turn .loop .inv .share-in, turn .loop .inv .size)
 
 part-cut-of-start : tie.Need-part-cut-of-start Inv-loop μ-loop
 part-cut-of-start c =
-    let first = c .before .before .before .before .before in
+    let first = c .before .before .before .before .before .before in
     let at-complete = first .before .before .before .before .before .before .before .before .before .before .before .before in
     let turn = at-complete .before .before .before .before .before .before .before .before .before .before .before .before .before .before .before .before in
     let at-scaled = turn .before .before .before .before .before .before .before .before .before .before .before in
@@ -359,18 +365,18 @@ part-cut-of-end c = search needs
 cut-of-requires-2 : tie.Need-cut-of-requires-2 Inv-loop μ-loop
 cut-of-requires-2 c κs =
     let at-halves = c .before .before .before .before .before in
-    let first = at-halves .before in
+    let first = at-halves .before .before in
     let at-complete = first .before .before .before .before .before .before .before .before .before .before .before .before in
     let at-parts = at-complete .before .before .before .before .before .before .before .before .before in
     let tested = at-parts .before .before .before .before .before .before in
     let turn = tested .before in
     let half = at-complete .complete in
     taken-count (turn .loop .inv) (tested .loop-test .taken) (at-parts .parts-of .ensures .0) (half .ensures)
-    (omega (arith, first .if1 .left)) (at-halves .halves-of .ensures)
+    (first .ended2 .given .1) (at-halves .halves-of .ensures)
 
 loop-less : tie.Need-loop-less Inv-loop μ-loop
 loop-less c =
-    let first = c .before .before .before .before .before .before .before in
+    let first = c .before .before .before .before .before .before .before .before in
     let at-complete = first .before .before .before .before .before .before .before .before .before .before .before .before in
     let tested = at-complete .before .before .before .before .before .before .before .before .before .before .before .before .before .before .before in
     let turn = tested .before in
@@ -380,7 +386,7 @@ loop-again : tie.Need-loop-again Inv-loop μ-loop
 loop-again c =
     let at-cut = c in
     let at-halves = at-cut .before .before .before .before .before .before in
-    let first = at-halves .before in
+    let first = at-halves .before .before in
     let at-complete = first .before .before .before .before .before .before .before .before .before .before .before .before in
     let at-parts = at-complete .before .before .before .before .before .before .before .before .before in
     let tested = at-parts .before .before .before .before .before .before in
@@ -389,7 +395,7 @@ loop-again c =
     let p = at-parts .parts-of .kept in
     let long = turn .loop .inv .lanes-long in
     walk-turns (turn .loop .inv) (tested .loop-test .taken) (at-parts .parts-of .ensures .0) (half .ensures)
-    (omega (arith, first .if1 .left)) (at-halves .halves-of .ensures)
+    (first .ended2 .given .1) (at-halves .halves-of .ensures)
     (at-cut .cut-of2 .result) _ (at-cut .cut-of2 .ensures) (three-long _ (p .1 .0 ∙ long onA) (p .1 .1 .0 ∙ long onB) (p .1 .1 .1 .0 ∙ long onC))
     (half .kept .1 .1 .1 .1 .1 .1 .1 .1 .1 .1 .0)
 
@@ -516,6 +522,7 @@ walk-spec =
     part-complete-start
     part-complete-end
     complete-requires
+    enum-known-ended
     sub-taken
     mul-rest
     mul-end-walk
@@ -532,6 +539,7 @@ walk-spec =
     same-length-4
     same-length-5
     returns
+    enum-known-ended-2
     halves-of-requires
     add-written
     mul-cut-of

@@ -21,17 +21,12 @@ returns c =
     let a = start .args in
     first-half (start .pre) (a .records .now) (not-true (a .gatherers .a .whole) (c .if1 .taken))
 
-refused-requires : tie.Need-refused-requires
-refused-requires c κs = search needs
-
 returns-2 : tie.Need-returns-2
 returns-2 c =
-    let second = c .before in
-    let first = second .before in
+    let first = c .before in
     let start = first .before .before .before .before .before .before .before .before in
     let a = start .args in
-    end-half (start .pre) (a .records .now) (not-false (a .gatherers .a .whole) (first .if1 .left)) (second .if2 .taken)
-    (c .refused .result) (c .refused .ensures)
+    end-half (start .pre) (a .records .now) (not-false (a .gatherers .a .whole) (first .if1 .left)) (c .if2 .taken)
 
 values-of-requires : tie.Need-values-of-requires
 values-of-requires c κs =
@@ -49,9 +44,6 @@ try-values-requires c κs =
 count-requires : tie.Need-count-requires
 count-requires c κs = search needs
 
-refused-requires-2 : tie.Need-refused-requires-2
-refused-requires-2 c κs = search needs
-
 same-length : tie.Need-same-length
 same-length c = search needs
 
@@ -66,8 +58,7 @@ same-length-4 c = search needs
 
 returns-3 : tie.Need-returns-3
 returns-3 c =
-    let third = c .before in
-    let at-count = third .before in
+    let at-count = c .before in
     let at-tried = at-count .before .before in
     let at-values = at-tried .before .before .before .before .before in
     let second = at-values .before .before .before .before in
@@ -80,7 +71,7 @@ returns-3 c =
     let halves = at-halves .halves-of in
     full-half (start .pre) (a .records .now) (not-false (a .gatherers .a .whole) (first .if1 .left)) (second .if2 .left) (halves .result) (halves .ensures)
     (values .result) (values .ensures .0) (tried .result) (tried .ensures) (at-count .count .result) (at-count .count .ensures)
-    (third .if3 .taken) (c .refused2 .result) (c .refused2 .ensures)
+    (c .if3 .taken)
 
 window-length-requires : tie.Need-window-length-requires
 window-length-requires c κs = search needs
@@ -157,12 +148,10 @@ complete-spec =
     (tie.spec
     halves-of-requires
     returns
-    refused-requires
     returns-2
     values-of-requires
     try-values-requires
     count-requires
-    refused-requires-2
     same-length
     same-length-2
     same-length-3
