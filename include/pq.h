@@ -4,7 +4,7 @@
  * changes (IEC 61000-4-30, Edition 3) come out, by the rules in docs/RULES.md. What the channel
  * remembers between two calls lies in an image of 764 bytes, which the host keeps: in memory, in a
  * file, or handed to another meter. The joint events of three phases have no call here
- * (docs/INTEGRATION.md, Threads, channels, interrupts).
+ * (docs/INTEGRATION.md, Three phases).
  *
  * Both calls answer every input, with 0 or with the number of a refusal, and both end. They use the
  * caller's buffers and a few KiB of stack, and nothing else: no allocation, no global state, no

@@ -5,7 +5,6 @@ use reading::Record;
 use records::Due;
 use rms::Marked;
 use rvc::Joining;
-use rvc::Moved;
 use rvc::Phase;
 use rvc::Signal;
 use settings::Scaled;

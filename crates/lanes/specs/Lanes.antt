@@ -45,9 +45,10 @@ lane c block = let m = rowLength (length block / 3) in laneIn c m (take (3 * m) 
 abbrev pub laid : Channel → List ℤ → List ℤ → List ℤ
 laid c block old = lane c block ++ drop (length block / 3) old
 
--- the parts of triples whose samples are within 16 bits
+-- the sum of squares of each channel is at most 2^30 a triple, as it is of samples within 16 bits
 abbrev pub SquaresFit : List (Three ℤ) → Type 0
 SquaresFit xs = (c : Channel) → partOf (channel c xs) .squares ≤ length xs * 2 ^ 30
 
+-- the parts of triples, with that
 abbrev pub PartsAre : List (Three ℤ) → Parts → Type 0
 PartsAre xs p = (p ≡ partsOf xs) × SquaresFit xs

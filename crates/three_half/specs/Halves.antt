@@ -40,7 +40,7 @@ pub record HalfOutcome : Type 0 where
   pub why : ℕ
   pub bytes : List ℕ
 
--- by 02's number: taken, or nothing changed
+-- by 01's number: taken, or nothing changed
 abbrev pub halfBy : ℕ → ThreeState → Parts → List ℕ → HalfOutcome
 halfBy zero st p lent = record {
   after = threeHalf st p;
@@ -90,7 +90,7 @@ valuesBy m g h = record {
   clipped = anyOf (threeOf (clippedAt g h onA) (clippedAt g h onB) (clippedAt g h onC));
 }
 
--- what they need
+-- what the code needs to work them out
 pub record ValuesReady (s : Settings) (g h : Gatherers) (ws : Three (List ℕ)) : Type 0 where
   pub samples-some : 0 < s .samples
   pub samples-most : s .samples ≤ 256

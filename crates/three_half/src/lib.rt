@@ -25,7 +25,7 @@ pub struct Half {
     pub written: usize,
 }
 
-// It is taken; or it is not, and why: then nothing is changed, and what stays as it was is not handed back, where it would be copied at every half-cycle.
+// It is taken, or not, and why. What stays as it was is not handed back: it would be copied at every half-cycle.
 pub enum HalfEnd {
     Taken(Half),
     Refused(u32),
@@ -62,7 +62,7 @@ pub fn halves_of(gatherers: Gatherers, parts: Parts) -> Gatherers
     }
 }
 
-// The values that end with them: a joint value is clipped if any channel's is.
+// The values that end with the half-cycles of `halves`: a joint value is clipped if any channel's is.
 fn values_of(
     settings: Settings,
     gatherers: Gatherers,

@@ -3,7 +3,6 @@
 use joint::Joint;
 use rms::Gatherer;
 use rms::Part;
-use rvc::Phase;
 use settings::Settings;
 use three_reading::ChannelReadings;
 use three_reading::ThreeReadings;
