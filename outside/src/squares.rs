@@ -40,14 +40,25 @@ fn has_clipped(samples: &[Sample]) -> bool {
     samples.iter().map(next).fold(0, i16::min) <= -32_767
 }
 
-/// The greatest whole number whose square is at most n: `near` where it is that one, else twice
-/// the root of the quarter, or one more.
-pub fn root(n: u64, near: u64) -> u64 {
-    if n == 0 {
-        return 0;
+/// The roots of the numbers below 256.
+const ROOTS: [u8; 256] = {
+    let mut roots = [0; 256];
+    let mut n: usize = 0;
+    while n < 256 {
+        roots[n] = n.isqrt() as u8;
+        n += 1;
     }
+    roots
+};
+
+/// The greatest whole number whose square is at most n: `near` where it is that one; else below 256
+/// from the table, and from there on twice the root of the quarter, or one more.
+pub fn root(n: u64, near: u64) -> u64 {
     if near * near <= n && n < (near + 1) * (near + 1) {
         return near;
+    }
+    if n < 256 {
+        return ROOTS[n as usize] as u64;
     }
     let even = 2 * root(n / 4, near / 2);
     let odd = even + 1;

@@ -1,5 +1,9 @@
-//! The logger's root, sum of squares and mark against the engineer's, at the edges.
+//! The logger's root, sum of squares and mark against the engineer's, at the edges; small roots on every
+//! host.
 
+mod common;
+
+use common::{feed, Q};
 use outside::rng::Rng;
 use outside::squares::{self, Part};
 use outside::{readings, waves};
@@ -26,6 +30,43 @@ fn roots_on_both_sides_of_each_step() {
             }
             assert!(readings::root(m, pair - 1) < r && readings::root(m, pair) >= r);
         }
+    }
+}
+
+/// A half-cycle of 256 samples with this sum of squares.
+fn half(sum: usize) -> Vec<i16> {
+    let (threes, rest) = (sum / 9, sum % 9);
+    let mut samples = [vec![3; threes], vec![2; rest / 4], vec![1; rest % 4]].concat();
+    samples.resize(256, 0);
+    samples
+}
+
+/// With M 256, two half-cycles with the sums n have n under the root. The value before them, which is
+/// the guess, has one half-cycle of `before` and one of n: it is far off, near or right.
+fn small_roots(before: i16) {
+    let settings = [256, 60, Q[2], Q[3], Q[4], Q[5], Q[6], Q[7], Q[8]];
+    let numbers: Vec<usize> = (0..1200).collect();
+    // Three half-cycles to a number: 119 values, in the window's 120 places.
+    for chunk in numbers.chunks(40) {
+        let mut samples = vec![];
+        for &n in chunk {
+            samples.extend([vec![before; 256], half(n), half(n)].concat());
+        }
+        let left = feed(settings, &samples, 20 * 400);
+        assert_eq!(left.fed.taken as usize, samples.len());
+        for (i, &n) in chunk.iter().enumerate() {
+            // The values begin at 104; that of the two halves n is the second of three.
+            let at = 104 + 4 * (3 * i + 1);
+            let value = u32::from_le_bytes(left.image[at..at + 4].try_into().unwrap());
+            assert_eq!(value as usize, n.isqrt(), "{n} after {before}");
+        }
+    }
+}
+
+#[test]
+fn each_small_root() {
+    for before in [0, 1, 3, 100, 32_766] {
+        small_roots(before);
     }
 }
 

@@ -68,10 +68,6 @@ root-le n b h = go (decLe (root n) b)
 pub root-only : {n r : ℕ} → IsRoot n r → r ≡ root n
 root-only {n} {r} i = le-antisymm (root-most n r (i .low)) (root-le n r (i .high))
 
-pub root-zero : root 0 ≡ 0
-unfolding root
-root-zero = refl
-
 module _ (n q : ℕ) (e : q ≡ root (n / 4)) where
   quarter : IsRoot (n / 4) q
   quarter = rw e (root-is (n / 4))

@@ -1,3 +1,4 @@
+pub mod Roots
 pub mod Gather
 pub mod CutLaws
 pub mod GatherLaws

@@ -1,9 +1,11 @@
 // From samples to values: parts of a half-cycle, the integer root, the RMS value of two half-cycles, and the gatherer of half-cycles.
 ghost use mathlib.Core.Path.{_≡_};
-ghost use Prim.Native.Nat.{_+_, _*_, _^_, _≤_, _<_};
+ghost use mathlib.Core.Bool.{true};
+ghost use Prim.Native.Nat.{_+_, _*_, _/_, _^_, _≤_, _<_};
 ghost use lib.ListN.{length, take, getD};
 ghost use lib.IntN.{pos};
 ghost use Rattle.reading.specs.Values.{root as rootOf, rms};
+ghost use Rattle.rms.specs.Roots.{rootsFrom};
 ghost use Rattle.rms.specs.Gather.{squaredOf, partOf, pairWith, noSample, withPart, withHalf, cut as cutOf, gathered, ValidGatherer};
 
 // A sample's square, and whether the sample is clipped.
@@ -112,21 +114,70 @@ pub fn sum_squares(samples: &[i16]) -> Part
     }
 }
 
-// The greatest number whose square is at most n: `near` where that is it already, else twice the root of the quarter, or one more. `near` is it where n is at
-// most 2 × near beyond its square; one comparison tells, as a difference that wraps is greater than that.
+// The roots of the numbers below 256, sixteen in a row; as a byte string, since the layout has the numbers of a list one to a line.
+const ROOTS: [u8; 256] = *b"\
+    \x00\x01\x01\x01\x02\x02\x02\x02\x02\x03\x03\x03\x03\x03\x03\x03\
+    \x04\x04\x04\x04\x04\x04\x04\x04\x04\x05\x05\x05\x05\x05\x05\x05\
+    \x05\x05\x05\x05\x06\x06\x06\x06\x06\x06\x06\x06\x06\x06\x06\x06\
+    \x06\x07\x07\x07\x07\x07\x07\x07\x07\x07\x07\x07\x07\x07\x07\x07\
+    \x08\x08\x08\x08\x08\x08\x08\x08\x08\x08\x08\x08\x08\x08\x08\x08\
+    \x08\x09\x09\x09\x09\x09\x09\x09\x09\x09\x09\x09\x09\x09\x09\x09\
+    \x09\x09\x09\x09\x0a\x0a\x0a\x0a\x0a\x0a\x0a\x0a\x0a\x0a\x0a\x0a\
+    \x0a\x0a\x0a\x0a\x0a\x0a\x0a\x0a\x0a\x0b\x0b\x0b\x0b\x0b\x0b\x0b\
+    \x0b\x0b\x0b\x0b\x0b\x0b\x0b\x0b\x0b\x0b\x0b\x0b\x0b\x0b\x0b\x0b\
+    \x0c\x0c\x0c\x0c\x0c\x0c\x0c\x0c\x0c\x0c\x0c\x0c\x0c\x0c\x0c\x0c\
+    \x0c\x0c\x0c\x0c\x0c\x0c\x0c\x0c\x0c\x0d\x0d\x0d\x0d\x0d\x0d\x0d\
+    \x0d\x0d\x0d\x0d\x0d\x0d\x0d\x0d\x0d\x0d\x0d\x0d\x0d\x0d\x0d\x0d\
+    \x0d\x0d\x0d\x0d\x0e\x0e\x0e\x0e\x0e\x0e\x0e\x0e\x0e\x0e\x0e\x0e\
+    \x0e\x0e\x0e\x0e\x0e\x0e\x0e\x0e\x0e\x0e\x0e\x0e\x0e\x0e\x0e\x0e\
+    \x0e\x0f\x0f\x0f\x0f\x0f\x0f\x0f\x0f\x0f\x0f\x0f\x0f\x0f\x0f\x0f\
+    \x0f\x0f\x0f\x0f\x0f\x0f\x0f\x0f\x0f\x0f\x0f\x0f\x0f\x0f\x0f\x0f";
+
+// The root of a number from a table of roots.
+fn from_table(n: u64, roots: &[u8]) -> u64
+    requires { ⌜ (rootsFrom 0 (now roots) ≡ true) × (n < length (now roots)) ⌝ }
+    ensures { λ r. ⌜ r ≡ rootOf n ⌝ }
+{
+    roots[n as usize] as u64
+}
+
+// The root of a number from that of its quarter: twice that, or one more.
+fn from_quarter(n: u64, quarter: u64) -> u64
+    requires { ⌜ quarter ≡ rootOf (n / 4) ⌝ }
+    ensures { λ r. ⌜ r ≡ rootOf n ⌝ }
+{
+    let even = 2 * quarter;
+    let odd = even + 1;
+    if odd * odd <= n { odd } else { even }
+}
+
+// The root of a number below 1,024: below 256 from the table, else from its quarter's root. It goes one quarter beyond the table so that it calls itself: else the
+// compiler would inline it, and each of `root`'s frames would hold the table, which lies on the stack.
+fn small_root(n: u64) -> u64
+    requires { ⌜ n < 1024 ⌝ }
+    ensures { λ r. ⌜ r ≡ rootOf n ⌝ }
+{
+    if n < 256 {
+        // A copy: the constant itself, if lent, would be laid on the stack at every call, also where it is not read.
+        let roots = ROOTS;
+        return from_table(n, &roots);
+    }
+    from_quarter(n, small_root(n / 4))
+}
+
+// The greatest number whose square is at most n: `near` where that is it already, else by `small_root` below 1,024, and from there on from the quarter's root,
+// sought near half of `near`. `near` is it where n is at most 2 × near beyond its square; one comparison tells, as a difference that wraps is greater than that.
 pub fn root(n: u64, near: u32) -> u64
     ensures { λ r. ⌜ r ≡ rootOf n ⌝ }
 {
-    if n == 0 {
-        return 0;
-    }
     let wide = near as u64;
     if std::num::wrapping_sub_u64(n, wide * wide) <= 2 * wide {
         return wide;
     }
-    let even = 2 * root(n / 4, near / 2);
-    let odd = even + 1;
-    if odd * odd <= n { odd } else { even }
+    if n < 1024 {
+        return small_root(n);
+    }
+    from_quarter(n, root(n / 4, near / 2))
 }
 
 // The RMS value of two neighbouring half-cycles with these sums of squares, in sixteenths of a count; it is sought near the value before.

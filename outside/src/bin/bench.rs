@@ -14,7 +14,7 @@ use std::time::Instant;
 const LARGE: usize = 1_000_000;
 const HALVES: usize = 10_000;
 const CALLS: usize = 10_000;
-const FEEDS: [&str; 3] = ["idle", "noisy", "events"];
+const FEEDS: [&str; 4] = ["idle", "noisy", "events", "dead"];
 
 /// The settings called Q, with another M and U 16000.
 fn settings(m: u32) -> Vec<u8> {
@@ -29,6 +29,7 @@ fn levels(feed: &str, halves: usize, rng: &mut Rng) -> Vec<i64> {
         match feed {
             "idle" => list.push(1000),
             "noisy" => list.push(1000 + rng.range(-8, 8)),
+            "dead" => list.push(0),
             // Two changes, then dips, swells and interruptions of two half-cycles each.
             _ => {
                 list.extend([1000; 240]);
@@ -44,12 +45,17 @@ fn levels(feed: &str, halves: usize, rng: &mut Rng) -> Vec<i64> {
 }
 
 /// Samples of a feed, as bytes: alternating counts; in the noisy feed each sample has its own noise.
+/// The samples of a dead line are −1, 0 or 1, so that all roots are small.
 fn samples(feed: &str, m: usize, count: usize) -> Vec<u8> {
     let mut rng = Rng::new(1);
     let mut bytes = Vec::with_capacity(2 * count);
     for level in levels(feed, count.div_ceil(m), &mut rng) {
         for j in 0..m {
-            let noise = if feed == "noisy" { rng.range(-20, 20) } else { 0 };
+            let noise = match feed {
+                "noisy" => rng.range(-20, 20),
+                "dead" => rng.range(-1, 1),
+                _ => 0,
+            };
             let x = if j % 2 == 0 { level + noise } else { -level - noise };
             bytes.extend((x as i16).to_le_bytes());
         }
