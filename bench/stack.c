@@ -1,4 +1,4 @@
-/* stack: how much stack the two calls use. Each call runs on a stack of its own that was filled with
+/* stack: how much stack the calls use. Each call runs on a stack of its own that was filled with
  * a pattern; the deepest byte that has changed tells. x86-64, glibc. */
 #define _GNU_SOURCE
 #include <stdio.h>
@@ -15,7 +15,7 @@ static ucontext_t here, there;
 
 /* Arguments and buffers of the call to measure. */
 static uint8_t settings[PQ_SETTINGS_SIZE], image[2][PQ_IMAGE_SIZE], reply[PQ_REPLY_SIZE];
-static uint8_t samples[PQ_SAMPLE_SIZE * SAMPLES], records[PQ_RECORD_SIZE * 1000];
+static uint8_t samples[PQ_SAMPLE_SIZE * SAMPLES], records[PQ_RECORD_SIZE * 1000], day_reply[PQ_DAY_REPLY_SIZE];
 static size_t image_length = PQ_IMAGE_SIZE, samples_length;
 static uint32_t number;
 
@@ -30,6 +30,11 @@ static void advance(void)
 {
     number = pq_advance(image[0], image_length, samples, samples_length, image[1], sizeof image[1],
                         records, sizeof records, reply, sizeof reply);
+}
+
+static void count_day(void)
+{
+    number = pq_count_day(settings, sizeof settings, records, sizeof records, 0, 0, 0, day_reply, sizeof day_reply);
 }
 
 /* Bytes of stack that a function touches. */
@@ -93,5 +98,10 @@ int main(void)
     tell("advance, one half-cycle", advance, PQ_OK);
     image_length = 1;
     tell("advance, refused", advance, PQ_REFUSED_IMAGE_LENGTH);
+    for (size_t j = 0; j < sizeof records; j += PQ_RECORD_SIZE)
+        records[j] = PQ_CHANGE;
+    tell("count of a day, 1000 records", count_day, PQ_OK);
+    settings[0] = 7;
+    tell("count of a day, refused", count_day, PQ_REFUSED_SAMPLES);
     return 0;
 }

@@ -1,4 +1,4 @@
-/* A program that makes the two calls and nothing else, to see what they add to a program. */
+/* A program that calls begin and advance and nothing else, to see what they add to a program. */
 #include "pq.h"
 
 uint8_t settings[PQ_SETTINGS_SIZE], image[2][PQ_IMAGE_SIZE], reply[PQ_REPLY_SIZE];

@@ -6,8 +6,11 @@
  * file, or handed to another meter. The joint events of three phases have no call here
  * (docs/INTEGRATION.md, Three phases).
  *
- * Both calls answer every input, with 0 or with the number of a refusal, and both end. They use the
- * caller's buffers and a few KiB of stack, and nothing else: no allocation, no global state, no
+ * pq_count_day counts a day's rapid voltage changes among such records, against the caps of a network
+ * contract.
+ *
+ * The three calls answer every input, with 0 or with the number of a refusal, and each ends. They use
+ * the caller's buffers and a few KiB of stack, and nothing else: no allocation, no global state, no
  * input or output. Any number of threads may call them at once, each with its own buffers.
  *
  * Rules for the buffers, which the calls cannot check:
@@ -32,7 +35,7 @@ extern "C" {
 
 /* The version, as three numbers and as a text; in two steps, so that each name becomes its number. */
 #define PQ_VERSION_MAJOR 2
-#define PQ_VERSION_MINOR 0
+#define PQ_VERSION_MINOR 1
 #define PQ_VERSION_PATCH 0
 #define PQ_VERSION PQ_DOTTED(PQ_VERSION_MAJOR, PQ_VERSION_MINOR, PQ_VERSION_PATCH)
 #define PQ_DOTTED(major, minor, patch) PQ_TEXT(major) "." PQ_TEXT(minor) "." PQ_TEXT(patch)
@@ -44,6 +47,7 @@ extern "C" {
 #define PQ_SAMPLE_SIZE 2
 #define PQ_RECORD_SIZE 20
 #define PQ_REPLY_SIZE 24
+#define PQ_DAY_REPLY_SIZE 32
 
 /* With room for this many bytes of records (four records) a call takes at least one sample of a
  * block that is not empty, unless the count of values is at its end. One value never has more. */
@@ -77,7 +81,7 @@ extern "C" {
 
 enum pq_kind { PQ_DIP = 1, PQ_SWELL = 2, PQ_INTERRUPTION = 3, PQ_CHANGE = 4 };
 
-/* A reply: three numbers of 8 bytes. */
+/* The reply of advance: three numbers of 8 bytes. */
 #define PQ_REPLY_TAKEN 0   /* samples taken, the block's first ones */
 #define PQ_REPLY_WRITTEN 8 /* records written */
 #define PQ_REPLY_WHY 16    /* why no more samples were taken */
@@ -90,6 +94,12 @@ enum pq_why {
                             half-cycle. No later call takes it or any behind it: a host that does
                             not look drops every sample from here on */
 };
+
+/* The reply of a day's count: four numbers of 8 bytes. */
+#define PQ_DAY_BY_SECOND 0       /* changes with a second magnitude of 3 % of U or more */
+#define PQ_DAY_BY_FIRST 8        /* changes with a first magnitude above 5 % of U */
+#define PQ_DAY_BY_SECOND_OVER 16 /* 1 if the former are more than the cap, else 0 */
+#define PQ_DAY_BY_FIRST_OVER 24  /* 1 if the latter are, else 0 */
 
 /* What a host may want to read from an image: numbers of 4 bytes, if not said otherwise, at these
  * places. A mark is 1 for clipped and 0 for not. */
@@ -134,7 +144,7 @@ enum pq_why {
 #define PQ_IMAGE_INTERRUPTION_CLIPPED (PQ_IMAGE_SWELL_CLIPPED + 4)
 #define PQ_IMAGE_CHANGE_CLIPPED (PQ_IMAGE_INTERRUPTION_CLIPPED + 4)
 
-/* What the two calls return. */
+/* What the calls return. */
 enum pq_refusal {
     PQ_OK = 0,
     PQ_REFUSED_SETTINGS_LENGTH = 1, /* settings that are not 36 bytes */
@@ -149,7 +159,11 @@ enum pq_refusal {
     PQ_REFUSED_IMAGE_SETTINGS = 10, /* an image with settings that begin refuses */
     PQ_REFUSED_IMAGE_BODY = 11,     /* an image with another body that cannot be */
     PQ_REFUSED_ODD_SAMPLES = 12,    /* an odd number of sample bytes */
-    PQ_REFUSED_REPLY_ROOM = 13      /* fewer than 24 bytes to write the reply into */
+    PQ_REFUSED_REPLY_ROOM = 13,     /* fewer than 24 bytes to write the reply into; 32 for a day's */
+    /* 14 is the three-phase logger's, which has no call here */
+    PQ_REFUSED_Z = 15,              /* z that is a day or more */
+    PQ_REFUSED_RECORDS = 16,        /* records that are not a multiple of 20 bytes */
+    PQ_REFUSED_KIND = 17            /* a record with a kind other than 1 to 4 */
 };
 
 /* Begins: writes the image of a channel that has taken no sample into the first 764 bytes of
@@ -170,6 +184,23 @@ uint32_t pq_advance(const uint8_t *image, size_t image_length,
                     uint8_t *next, size_t next_length,
                     uint8_t *records, size_t records_length,
                     uint8_t *reply, size_t reply_length);
+
+/* Counts the rapid voltage changes that start on one day, among records made under these settings,
+ * 20 bytes each, in any order. Dips, swells and interruptions are passed over. One count is of second
+ * magnitudes (the difference of the steady states) of 3 % of U or more, the other of first ones (the
+ * greatest difference) above 5 %; a change may be in both. Each count is over if it is above 24, or
+ * above 12 for a supply above 35 kV.
+ * - `z`: half-cycles from midnight to value 0, below 86400 x N, which is a day. Value 1 begins with
+ *   the first sample, value 0 lies a half-cycle before it;
+ * - `above`: whether the supply is above 35 kV: 0 for no, any other number for yes;
+ * - `day`: 0 is the day of value 0, 1 the next one. Where the first sample is taken at midnight, z is
+ *   86400 x N - 1, and that sample's day is 1.
+ * Writes four numbers (PQ_DAY_..) into the first 32 bytes of `reply`, and leaves its further bytes.
+ * Returns 0, or the first that applies of 1 to 6, 15, 16, 17, 13, in this order. */
+uint32_t pq_count_day(const uint8_t *settings, size_t settings_length,
+                      const uint8_t *records, size_t records_length,
+                      uint64_t z, uint32_t above, uint64_t day,
+                      uint8_t *reply, size_t reply_length);
 
 /* Numbers in bytes, on any machine. */
 static inline uint32_t pq_get_u32(const uint8_t *at)
@@ -218,6 +249,24 @@ static inline struct pq_record pq_get_record(const uint8_t *at)
     return record;
 }
 
+/* A day's count as numbers; see PQ_DAY_.. for what they mean. */
+struct pq_day {
+    uint64_t by_second;
+    uint64_t by_first;
+    uint32_t by_second_over; /* 1 or 0 */
+    uint32_t by_first_over;  /* 1 or 0 */
+};
+
+static inline struct pq_day pq_get_day(const uint8_t *reply)
+{
+    struct pq_day day;
+    day.by_second = pq_get_u64(reply + PQ_DAY_BY_SECOND);
+    day.by_first = pq_get_u64(reply + PQ_DAY_BY_FIRST);
+    day.by_second_over = pq_get_u32(reply + PQ_DAY_BY_SECOND_OVER);
+    day.by_first_over = pq_get_u32(reply + PQ_DAY_BY_FIRST_OVER);
+    return day;
+}
+
 /* N of an image's channel, which also divides the magnitudes of a rapid voltage change. */
 static inline uint32_t pq_window_length(const uint8_t *image)
 {
@@ -262,8 +311,11 @@ static inline const char *pq_refusal_text(uint32_t number)
     case PQ_REFUSED_IMAGE_SETTINGS: return "the image has settings that are out of range";
     case PQ_REFUSED_IMAGE_BODY: return "the image has another part that cannot be";
     case PQ_REFUSED_ODD_SAMPLES: return "an odd number of sample bytes";
-    case PQ_REFUSED_REPLY_ROOM: return "fewer than 24 bytes to write the reply into";
-    default: return "no refusal has this number";
+    case PQ_REFUSED_REPLY_ROOM: return "too few bytes to write the reply into";
+    case PQ_REFUSED_Z: return "z, half-cycles from midnight to value 0, is a day or more";
+    case PQ_REFUSED_RECORDS: return "the records are not a multiple of 20 bytes";
+    case PQ_REFUSED_KIND: return "a record has a kind other than 1 to 4";
+    default: return "no call refuses with this number";
     }
 }
 

@@ -169,14 +169,15 @@ static void check_change(void)
 static void check_lengths(void)
 {
     IS(PQ_VERSION_MAJOR, 2);
-    IS(PQ_VERSION_MINOR, 0);
+    IS(PQ_VERSION_MINOR, 1);
     IS(PQ_VERSION_PATCH, 0);
-    same_text("PQ_VERSION", "2.0.0", PQ_VERSION);
+    same_text("PQ_VERSION", "2.1.0", PQ_VERSION);
     IS(PQ_SETTINGS_SIZE, 36);
     IS(PQ_IMAGE_SIZE, 764);
     IS(PQ_SAMPLE_SIZE, 2);
     IS(PQ_RECORD_SIZE, 20);
     IS(PQ_REPLY_SIZE, 24);
+    IS(PQ_DAY_REPLY_SIZE, 32);
     IS(PQ_RECORDS_ENOUGH, 80);
 }
 
@@ -200,6 +201,10 @@ static void check_places(void)
     IS(PQ_REPLY_TAKEN, 0);
     IS(PQ_REPLY_WRITTEN, 8);
     IS(PQ_REPLY_WHY, 16);
+    IS(PQ_DAY_BY_SECOND, 0);
+    IS(PQ_DAY_BY_FIRST, 8);
+    IS(PQ_DAY_BY_SECOND_OVER, 16);
+    IS(PQ_DAY_BY_FIRST_OVER, 24);
 }
 
 static void check_image_places(void)
@@ -250,6 +255,9 @@ static void check_enumerators(void)
     IS(PQ_REFUSED_IMAGE_BODY, 11);
     IS(PQ_REFUSED_ODD_SAMPLES, 12);
     IS(PQ_REFUSED_REPLY_ROOM, 13);
+    IS(PQ_REFUSED_Z, 15);
+    IS(PQ_REFUSED_RECORDS, 16);
+    IS(PQ_REFUSED_KIND, 17);
 }
 
 static void check_texts(void)
@@ -268,12 +276,16 @@ static void check_texts(void)
         "the image has settings that are out of range",
         "the image has another part that cannot be",
         "an odd number of sample bytes",
-        "fewer than 24 bytes to write the reply into",
+        "too few bytes to write the reply into",
+        "no call refuses with this number",
+        "z, half-cycles from midnight to value 0, is a day or more",
+        "the records are not a multiple of 20 bytes",
+        "a record has a kind other than 1 to 4",
+        "no call refuses with this number",
     };
-    for (uint32_t number = 0; number < 14; number++)
+    for (uint32_t number = 0; number < sizeof texts / sizeof texts[0]; number++)
         same_text("text", texts[number], pq_refusal_text(number));
-    same_text("text of 14", "no refusal has this number", pq_refusal_text(14));
-    same_text("text of the greatest number", "no refusal has this number", pq_refusal_text(UINT32_MAX));
+    same_text("text of the greatest number", "no call refuses with this number", pq_refusal_text(UINT32_MAX));
 }
 
 /* Each setting, just out of its range, at its place. */
@@ -337,6 +349,86 @@ static void check_record(void)
     same("duration", 0x0b0a0908, record.duration);
     same("first", 0x0f0e0d0c, record.first);
     same("second", 0x13121110, record.second);
+}
+
+/* Changes of one start and two magnitudes, kept as records, and the count of a day of them. */
+static uint8_t changes[25 * PQ_RECORD_SIZE + 1];
+static uint8_t day_reply[PQ_DAY_REPLY_SIZE + 1];
+
+static void put_changes(int count, uint32_t start, uint32_t first, uint32_t second)
+{
+    memset(changes, 0, sizeof changes);
+    for (uint8_t *at = changes; count > 0; count--, at += PQ_RECORD_SIZE) {
+        at[PQ_RECORD_KIND] = PQ_CHANGE;
+        pq_put_u32(at + PQ_RECORD_START, start);
+        pq_put_u32(at + PQ_RECORD_DURATION, 2);
+        pq_put_u32(at + PQ_RECORD_FIRST, first);
+        pq_put_u32(at + PQ_RECORD_SECOND, second);
+    }
+}
+
+/* The answer at 50 or 60 Hz to so many bytes of the records; the reply is filled with 0x5a before. */
+static uint32_t count_day(uint32_t system, size_t length, uint64_t z, uint32_t above, uint64_t day, size_t room)
+{
+    uint8_t settings[PQ_SETTINGS_SIZE];
+    put_settings(settings, system, 1600, 500);
+    memset(day_reply, 0x5a, sizeof day_reply);
+    return pq_count_day(settings, sizeof settings, changes, length, z, above, day, day_reply, room);
+}
+
+/* So many records are counted as second and first, over or not. */
+static void same_day(uint32_t system, size_t count, uint64_t z, uint32_t above, uint64_t day, uint64_t second, uint64_t first, uint32_t over)
+{
+    same("a day", PQ_OK, count_day(system, PQ_RECORD_SIZE * count, z, above, day, sizeof day_reply));
+    struct pq_day told = pq_get_day(day_reply);
+    same("second magnitudes", second, told.by_second);
+    same("first magnitudes", first, told.by_first);
+    same("second magnitudes over", over, told.by_second_over);
+    same("first magnitudes over", over, told.by_first_over);
+    same("behind a day's reply", 0x5a, day_reply[PQ_DAY_REPLY_SIZE]);
+}
+
+/* The limits of both counts, midnight, the caps, and both verdicts by themselves. */
+static void check_day(void)
+{
+    put_changes(25, 8639999, 8000, 4800);
+    same_day(50, 1, 0, 0, 0, 1, 0, 0);
+    same_day(50, 1, 0, 0, 1, 0, 0, 0);
+    same_day(50, 1, 1, 0, 1, 1, 0, 0);
+    same_day(50, 1, 8639999, 0, 1, 1, 0, 0);
+    same_day(50, 1, 0, 0, UINT64_MAX, 0, 0, 0);
+    same_day(60, 1, 0, 0, 0, 0, 0, 0);
+    put_changes(1, 8640000, 8001, 4799);
+    same_day(50, 1, 0, 0, 1, 0, 1, 0);
+    put_changes(25, 1, 20000, 20000);
+    same_day(50, 24, 0, 0, 0, 24, 24, 0);
+    same_day(50, 25, 0, 0, 0, 25, 25, 1);
+    same_day(60, 12, 0, 1, 0, 12, 12, 0);
+    same_day(60, 13, 0, UINT32_MAX, 0, 13, 13, 1);
+    for (int j = 0; j < 2; j++) {
+        put_changes(13, 1, 20000, 20000);
+        pq_put_u32(changes + (j == 0 ? PQ_RECORD_FIRST : PQ_RECORD_SECOND), 0);
+        same("one over", PQ_OK, count_day(50, 13 * PQ_RECORD_SIZE, 0, 2, 0, PQ_DAY_REPLY_SIZE));
+        same("second magnitudes over", j == 0, pq_get_u64(day_reply + PQ_DAY_BY_SECOND_OVER));
+        same("first magnitudes over", j == 1, pq_get_u64(day_reply + PQ_DAY_BY_FIRST_OVER));
+    }
+}
+
+/* A day's refusals: one of the settings, then 15, 16, 17, 13, each with those behind it. Nothing is written. */
+static void check_refused_day(void)
+{
+    static const struct { uint32_t system; size_t length; uint64_t z; uint8_t kind; uint32_t refusal; } wrong[] = {
+        {51, 21, 8640000, 5, PQ_REFUSED_SYSTEM}, {50, 21, 8640000, 5, PQ_REFUSED_Z}, {60, 21, 10368000, 5, PQ_REFUSED_Z},
+        {50, 21, 8639999, 5, PQ_REFUSED_RECORDS}, {50, 20, 8639999, 5, PQ_REFUSED_KIND}, {50, 20, 0, 0, PQ_REFUSED_KIND},
+        {60, 20, 10367999, 1, PQ_REFUSED_REPLY_ROOM},
+    };
+    for (size_t j = 0; j < sizeof wrong / sizeof wrong[0]; j++) {
+        put_changes(1, 1, 20000, 20000);
+        changes[0] = wrong[j].kind;
+        same("a refused day", wrong[j].refusal, count_day(wrong[j].system, wrong[j].length, wrong[j].z, 0, 0, PQ_DAY_REPLY_SIZE - 1));
+        for (size_t at = 0; at < sizeof day_reply; at++)
+            same("a refused day's reply", 0x5a, day_reply[at]);
+    }
 }
 
 /* Clipped samples: a recording that is put together here and fed in blocks. */
@@ -705,6 +797,8 @@ int main(void)
     check_refused_calls();
     check_events();
     check_change();
+    check_day();
+    check_refused_day();
     check_clipped_dip();
     check_clipped_image();
     check_event_marks();

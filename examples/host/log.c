@@ -1,4 +1,4 @@
-/* log: logs one voltage channel through the two calls of pq.h.
+/* log: logs one voltage channel through pq_begin and pq_advance of pq.h.
  *
  *   log                 settings, then samples, from standard input; prints what the event program
  *                       prints: heading, records, count of values; and behind the line of a record

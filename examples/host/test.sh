@@ -331,8 +331,8 @@ for compiler in "gcc -std=c99 -x c" "clang -std=c99 -x c" "g++ -std=c++17 -Wold-
     echo "same: include/pq.h by ${compiler%% -x*}"
 done
 
-# The library defines the two calls and needs three functions of a C library.
-nm -g "$LIBRARY" | awk 'NF > 1 && !/ (T pq_(begin|advance)|U mem(cpy|move|set))$/ { print; other = 1 } END { exit other }'
+# The library defines the three calls and needs three functions of a C library.
+nm -g "$LIBRARY" | awk 'NF > 1 && !/ (T pq_(begin|advance|count_day)|U mem(cpy|move|set))$/ { print; other = 1 } END { exit other }'
 echo "same: names of the library"
 size "$LIBRARY" | awk 'NR > 1 && $2 + $3 > 0 { print "data: " $0; data = 1 } END { exit data }'
 echo "same: the library has no data of its own"
@@ -342,7 +342,7 @@ echo "same: the library is within its bound"
 
 # The stack that docs/INTEGRATION.md promises, in bytes.
 gcc -std=c99 -Wall -Wextra -Werror -O2 -I../include -Wl,-z,now ../bench/stack.c "$LIBRARY" -o "$work/stack"
-"$work/stack" | awk '{ used = $(NF - 1) } used > (/^begin/ ? 2816 : 7168) { print "stack: " $0; over = 1 } END { exit over || NR == 0 }'
+"$work/stack" | awk '{ used = $(NF - 1) } used > (/^begin/ ? 2816 : /^count/ ? 512 : 7168) { print "stack: " $0; over = 1 } END { exit over || NR == 0 }'
 echo "same: the stack is within its bounds"
 
 # stored: the lines of log as the code in the document prints them.
@@ -393,6 +393,25 @@ for block in 1 7 64 4999; do
 END
 done
 [ "$(wc -l <"$work/got")" = 121 ] || { echo "different: the records behind the values' end"; exit 1; }
+
+# Its count of a day, of records given as lines: the crusher's, on both sides of a midnight, on the limits of 3 % and 5 %, at the cap and over it; at 60 Hz, too.
+gcc -std=c99 -Wall -Wextra -pedantic -Wconversion -Werror -I../include -I"$work" ../tests/contract.c "$LIBRARY" -o "$work/contract"
+with 4 '\074\0\0\0' crusher.bin >"$work/crusher 60.bin"
+# counted TIMES LINES SECONDS DAY EXPECTED [RECORDING]: so many times these lines.
+counted() {
+    for _ in $(seq "$1"); do echo "$2"; done | "$work/contract" "${6:-crusher.bin}" "$3" "$4" >"$work/got"
+    same "the code in docs/INTEGRATION.md: day $4, $1 times $2, from $3 s on" <(echo "$5") "$work/got"
+}
+counted 1 "$(sed -n 2,3p crusher.txt)" 23400 0 "day 0: 0 of 3 % or more, 1 above 5 %"
+counted 1 "$(sed -n 2,3p crusher.txt)" 23400 1 "day 1: 0 of 3 % or more, 0 above 5 %"
+counted 1 "rvc 100 1 920001 552000" 86399 0 "day 0: 1 of 3 % or more, 1 above 5 %"
+counted 1 "rvc 101 1 920000 552000" 86399 1 "day 1: 1 of 3 % or more, 0 above 5 %"
+counted 1 "rvc 1 1 920001 551999" 0 1 "day 1: 0 of 3 % or more, 1 above 5 %"
+counted 24 "rvc 1 1 920001 552000" 23400 0 "day 0: 24 of 3 % or more, 24 above 5 %"
+counted 25 "rvc 1 1 920001 552000" 23400 0 "day 0: 25 of 3 % or more, over, 25 above 5 %, over"
+counted 1 "rvc 120 1 1104000 662400" 86399 0 "day 0: 1 of 3 % or more, 0 above 5 %" "$work/crusher 60.bin"
+counted 1 "rvc 121 1 1104001 662399" 86399 1 "day 1: 0 of 3 % or more, 1 above 5 %" "$work/crusher 60.bin"
+counted 1 "none 1 1 1 1" 0 0 "refused 17"
 
 # all_tests NAME: of the command in LOG.
 all_tests() {

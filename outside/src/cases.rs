@@ -1,5 +1,5 @@
-//! Random cases: settings, lists of calls, images, damaged images. Each is run on every
-//! implementation, and the first difference is told.
+//! Random cases: settings, lists of calls, counts of a day, images, damaged images. Each is run on
+//! every implementation, and the first difference is told.
 
 use crate::hosts::{demand, Lengths, Outcome, Run};
 use crate::images::{self, Fields};
@@ -13,7 +13,8 @@ impl Run<'_> {
     pub fn case(&mut self, rng: &mut Rng) -> Outcome<()> {
         match rng.range(0, 99) {
             0..=9 => self.settings_case(rng),
-            10..=47 => self.list_case(rng),
+            10..=44 => self.list_case(rng),
+            45..=47 => self.day_case(rng),
             48..=76 => self.image_case(rng),
             77..=90 => self.damaged_case(rng),
             91..=95 => self.program_case(rng),

@@ -21,6 +21,18 @@ mod library {
             reply: *mut u8,
             reply_length: usize,
         ) -> u32;
+
+        pub fn pq_count_day(
+            settings: *const u8,
+            settings_length: usize,
+            records: *const u8,
+            records_length: usize,
+            z: u64,
+            above: u32,
+            day: u64,
+            reply: *mut u8,
+            reply_length: usize,
+        ) -> u32;
     }
 }
 
@@ -50,6 +62,32 @@ pub fn advance(
             new_image.len(),
             records.as_mut_ptr(),
             records.len(),
+            reply.as_mut_ptr(),
+            reply.len(),
+        )
+    }
+}
+
+/// The proved count of a day.
+pub fn count_day(
+    settings: &[u8],
+    records: &[u8],
+    z: u64,
+    above: u32,
+    day: u64,
+    reply: &mut [u8],
+) -> u32 {
+    // SAFETY: all slices are valid for their lengths during the call; the reply, which is written, is
+    // borrowed alone, so it overlaps no other.
+    unsafe {
+        library::pq_count_day(
+            settings.as_ptr(),
+            settings.len(),
+            records.as_ptr(),
+            records.len(),
+            z,
+            above,
+            day,
             reply.as_mut_ptr(),
             reply.len(),
         )

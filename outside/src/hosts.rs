@@ -9,7 +9,7 @@ use crate::{host, stepper};
 type Begin = fn(&[u8], &mut [u8]) -> u32;
 type Advance = fn(&[u8], &[u8], &mut [u8], &mut [u8], &mut [u8]) -> u32;
 
-/// An implementation of the two calls for a host.
+/// An implementation of begin and advance.
 pub struct Host {
     pub name: &'static str,
     pub begin: Begin,

@@ -6,7 +6,7 @@
 //! - the logger (`logger`, `limits`, `room`, `squares`, `image`, `host`): small state, half-cycle by
 //!   half-cycle.
 //!
-//! And the same for three phases (`three`).
+//! And the same for three phases (`three`). The count of a day is read twice (`days`, `day_seen`).
 
 pub mod engineer;
 pub mod readings;
@@ -25,6 +25,8 @@ pub mod program;
 
 pub mod three;
 
+pub mod days;
+
 #[cfg(feature = "proved")]
 pub mod ffi;
 
@@ -33,6 +35,9 @@ pub mod arguments;
 pub mod call_lists;
 pub mod cases;
 pub mod clips;
+pub mod day_cases;
+pub mod day_hosts;
+pub mod day_seen;
 pub mod guard;
 pub mod hosts;
 pub mod images;

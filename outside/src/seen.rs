@@ -1,5 +1,6 @@
 //! Counts of what the random cases have seen.
 
+use crate::day_seen::DaySeen;
 use crate::marks::Marks;
 use crate::pairs::{pairs, rules};
 use crate::room::RECORD;
@@ -8,12 +9,13 @@ use crate::three;
 use std::collections::BTreeMap;
 
 /// Names of the calls that are counted.
-pub const CALLS: [&str; 7] = ["start", "feed", "look", "save", "restore", "begin", "advance"];
+pub const CALLS: [&str; 8] =
+    ["start", "feed", "look", "save", "restore", "begin", "advance", "count_day"];
 
 /// What has been seen.
 #[derive(Default)]
 pub struct Seen {
-    pub calls: [u64; 7],
+    pub calls: [u64; 8],
     /// Records written by advance, by kind, 1 to 4, without and with the mark.
     pub records: [[u64; 2]; 5],
     /// What the marks of recordings have shown.
@@ -33,6 +35,8 @@ pub struct Seen {
     pub programs: u64,
     /// Events that had not ended with a recording, by kind, 1 to 4.
     pub not_ended: [u64; 5],
+    /// What the counts of a day have shown.
+    pub days: DaySeen,
     /// What recordings of three phases have shown.
     pub three: three::seen::Seen,
 }
@@ -96,6 +100,7 @@ impl Seen {
             add(format!("not ended: {name}"), self.not_ended[kind]);
         }
         list.extend(self.marks.counts());
+        list.extend(self.days.counts());
         list.extend(self.three.counts());
         list
     }

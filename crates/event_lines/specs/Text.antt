@@ -6,7 +6,7 @@ use lib.ListN.{length, take, drop}
 use Rattle.numbers.specs.Notation.{_<ᵇ_, _≡ᵇ_, if_then_else_}
 use Rattle.reading.specs.declared.Event.{Event}
 use Rattle.reading.specs.Layout.{recordLength}
-use Rattle.records.specs.Due.{eventOf}
+use Rattle.reading.specs.Records.{eventOf}
 
 -- a number's digits, at most k of them: those of its tenth, then its last
 abbrev pub decimalTo : ℕ → ℕ → List ℕ

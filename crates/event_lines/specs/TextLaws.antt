@@ -2,18 +2,18 @@
 use mathlib.Core.Path.{_≡_, refl, sym, _∙_, ap, subst, subst⁻¹}
 use mathlib.Core.Bool.{Bool, true, false}
 use mathlib.Core.List.{List, [], _∷_, _++_, append-assoc, append-nil}
-use Prim.Native.Nat.{ℕ, zero, suc, _+_, _-_, _*_, _/_, _%_, _^_, _≤_, _<_}
+use Prim.Native.Nat.{ℕ, zero, suc, _+_, _-_, _/_, _%_, _^_, _≤_, _<_}
 use native.Mathlib.Omega.{arith}
 use native.Mathlib.Nat.{pow-suc, one-le-pow, pow-le-pow-right}
 use native.Mathlib.Decide.{decLt}
-use lib.ListN.{length, take, drop, set, getD, length-append, length-drop}
-use lib.Seq.{length-take-le, take-all, take-suc, take-suc-set, drop-drop, drop-set-lt}
+use lib.ListN.{length, take, drop, set, getD, length-append}
+use lib.Seq.{take-all, take-suc, take-suc-set, drop-drop, drop-set-lt}
 use borrow.Author.Tests.{lt-ltb, le-ltb, eq-eqb, ne-eqb}
 use Rattle.io.specs.Digits.{digits, glyph, Fewest}
 use Rattle.numbers.specs.Notation.{_<ᵇ_, if_then_else_}
 use Rattle.reading.specs.declared.Event.{Event}
-use Rattle.reading.specs.Layout.{recordLength}
-use Rattle.records.specs.Due.{eventOf}
+use Rattle.reading.specs.Records.{eventOf}
+use Rattle.records.specs.ListLaws.{recordAt, record-is}
 use Rattle.event_lines.specs.Text.{decimalTo, column, dip, swell, interruption, rvc, kindName, lineOf, linesOf, Put}
 
 -- 01's line: dip 3 3 800 0
@@ -140,21 +140,13 @@ pub column-is : (n k : ℕ) (b : List ℕ) → n < 2 ^ 64 → Fewest 10 1 n k �
 unfolding column
 column-is n k b h few e = ap (λ (l : List ℕ). 32 ∷ l) (e ∙ digits-decimal 20 k n (digits-most n k h few) few)
 
--- one record of a buffer, and its line behind those of the records before it
-pub record-length : (records : List ℕ) (i : ℕ) → recordLength * i + recordLength ≤ length records
-    → length (take (recordLength * i + recordLength - recordLength * i) (drop (recordLength * i) records)) ≡ recordLength
-record-length records i h =
-    let n : recordLength * i + recordLength - recordLength * i ≡ recordLength = omega arith in
-    length-take-le (recordLength * i + recordLength - recordLength * i) (drop (recordLength * i) records) (omega (arith, length-drop (recordLength * i) records)) ∙ n
-
-pub lines-next : (records t₀ t u : List ℕ) (i at b : ℕ) (e : Event) → Put t₀ 0 (linesOf i records) at t
-    → e ≡ eventOf (take (recordLength * i + recordLength - recordLength * i) (drop (recordLength * i) records))
+-- a record's line behind those of the records before it
+pub lines-next : (records t₀ t u : List ℕ) (i at b : ℕ) (e : Event) → Put t₀ 0 (linesOf i records) at t → e ≡ eventOf (recordAt records i)
     → Put t at (lineOf e) b u → Put t₀ 0 (linesOf (i + 1) records) b u
 lines-next records t₀ t u i at b e before is p =
-    let n : recordLength * i + recordLength - recordLength * i ≡ recordLength = omega arith in
     let k : suc i ≡ i + 1 = omega arith in
     put-as _ _ _ _ _ _
     (ap (λ (x : Event). linesOf i records ++ lineOf x) is
-    ∙ ap (λ (l : ℕ). linesOf i records ++ lineOf (eventOf (take l (drop (recordLength * i) records)))) n
+    ∙ ap (λ (l : List ℕ). linesOf i records ++ lineOf (eventOf l)) (record-is records i)
     ∙ ap (λ (l : ℕ). linesOf l records) k)
     (put-put t₀ t u 0 at b (linesOf i records) (lineOf e) before p)

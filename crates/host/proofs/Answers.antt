@@ -1,4 +1,4 @@
--- The ways of advance: each refusal leaves every buffer as it was; else the buffers are those of restore, feed and save.
+-- The ways of advance: each refusal leaves every buffer as it was; else the buffers are those of restore, feed and save. And the ways of the count.
 use mathlib.Core.Path.{_≡_, sym, _∙_, ap}
 use mathlib.Core.Bool.{Bool, true, false, not}
 use mathlib.Core.List.{List}
@@ -7,11 +7,12 @@ use native.Mathlib.Omega.{arith}
 use lib.ListN.{length}
 use borrow.Author.Tests.{eq-eqb, ne-eqb, lt-leb, le-leb, lt-ltb, le-ltb}
 use Rattle.numbers.specs.Notation.{_≤ᵇ_, _≡ᵇ_, refuse_unless_then_, if_then_else_}
+use Rattle.numbers.specs.Answers.{Answered}
 use Rattle.reading.specs.declared.Told.{Told}
 use Rattle.reading.specs.Restore.{restoreRefusal}
 use Rattle.reading.specs.Calls.{Outcome, Saved, Restoration}
 use Rattle.reading.specs.Engineer.{tooShort}
-use Rattle.reading.specs.Layout.{imageLength, replyLength}
+use Rattle.reading.specs.Layout.{imageLength, replyLength, dayReplyLength}
 use Rattle.samples.specs.Samples.{samplesOf}
 use Rattle.state.specs.declared.State.{State}
 use Rattle.state.specs.Calls.{fedWith}
@@ -21,7 +22,12 @@ use Rattle.image.specs.Image.{stateAt, saveAnswer, acceptanceTold, restoredTo}
 use Rattle.logger.specs.Logger.{fedTo, savedTo}
 use Rattle.logger.specs.Calls.{loggerCalls}
 use Rattle.logger.specs.CallsLaws.{restore-accepted, restore-refused}
+use Rattle.day_count.specs.declared.DayCount.{DayCount}
+use Rattle.day_count.specs.declared.Counted.{Counted}
+use Rattle.day_count.specs.declared.Counted.the-variants.{Day, Refused as NotCounted}
+use Rattle.day_count.specs.Days.{dayCounted, countedTold}
 use Rattle.host.specs.Host.{advanceRefusal, replied, advancedTo, advancedBy, advanced}
+use Rattle.host.specs.Host.{CountedDay, dayReplied, countedTo, countedBy, counted}
 
 -- each way out of advance
 module _ (image samples next records reply : List ℕ) where
@@ -98,3 +104,26 @@ module _ (image samples next records reply : List ℕ) where
               (λ i. advancedTo (n i) (s i) out (replies i))
               ∙ (λ i. advancedBy 0 (f i) next records reply)
               ∙ sym (ap (λ (m : ℕ). advancedBy m fed next records reply) zero-is)
+
+-- each way out of the count
+module _ (settings records : List ℕ) (z : ℕ) (above : Bool) (day : ℕ) (reply : List ℕ) where
+  abbrev CountIs : CountedDay → Type 0
+  CountIs left = left ≡ counted settings records z above day reply
+
+  module _ (told : Counted) (is : countedTold told ≡ dayCounted settings records z above day) where
+    answer-is : (other : Counted) → told ≡ other → CountIs (countedBy (countedTold other) reply)
+    unfolding counted
+    answer-is other e = ap (λ (t : Counted). countedBy (countedTold t) reply) (sym e) ∙ ap (λ (a : Answered DayCount). countedBy a reply) is
+
+    pub count-refused : (n : ℕ) → told ≡ NotCounted n → CountIs (countedTo n reply)
+    count-refused n e = answer-is (NotCounted n) e
+
+    module _ (d : DayCount) (e : told ≡ Day d) where
+      abbrev leaves : Bool → CountedDay
+      leaves long = if long then countedTo 0 (dayReplied d reply) else countedTo 13 reply
+
+      pub day-refused : length reply < dayReplyLength → CountIs (countedTo 13 reply)
+      day-refused short = sym (ap leaves (lt-leb dayReplyLength (length reply) short)) ∙ answer-is (Day d) e
+
+      pub day-told : dayReplyLength ≤ length reply → (after : List ℕ) → after ≡ dayReplied d reply → CountIs (countedTo 0 after)
+      day-told long after replies = ap (countedTo 0) replies ∙ sym (ap leaves (le-leb dayReplyLength (length reply) long)) ∙ answer-is (Day d) e

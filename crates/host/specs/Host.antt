@@ -1,21 +1,23 @@
--- What the two calls of a host answer, and what they leave in each lent buffer.
-use mathlib.Core.Bool.{not}
+-- What the calls of a host answer, and what they leave in each lent buffer.
+use mathlib.Core.Bool.{Bool, not}
 use mathlib.Core.List.{List, [], _∷_}
 use Prim.Native.Nat.{ℕ, zero, suc, _%_}
 use lib.ListN.{length}
 use Rattle.octets.specs.Bytes.{row}
-use Rattle.numbers.specs.Notation.{_≤ᵇ_, _≡ᵇ_, refuse_unless_then_}
+use Rattle.numbers.specs.Notation.{_≤ᵇ_, _≡ᵇ_, if_then_else_, flag, refuse_unless_then_}
 use Rattle.numbers.specs.Answers.{Answered}
 use Rattle.numbers.specs.Answers.Answered.{accepted, refused}
 use Rattle.reading.specs.declared.Told.{Told}
 use Rattle.reading.specs.Restore.{restoreRefusal}
 use Rattle.reading.specs.Calls.{Outcome}
 use Rattle.reading.specs.Engineer.{over, tooShort}
-use Rattle.reading.specs.Layout.{replyWidths, replyLength}
+use Rattle.reading.specs.Layout.{replyWidths, replyLength, dayReplyWidths, dayReplyLength}
 use Rattle.samples.specs.Samples.{samplesOf}
 use Rattle.state.specs.declared.State.{State}
 use Rattle.image.specs.Image.{stateAt}
 use Rattle.logger.specs.Calls.{loggerCalls}
+use Rattle.day_count.specs.declared.DayCount.{DayCount}
+use Rattle.day_count.specs.Days.{dayCounted}
 
 -- a call's answer, and the buffers that it may write as it leaves them
 pub record Begun : Type 0 where
@@ -62,3 +64,24 @@ advancedBy (suc n) f next records reply = advancedTo (suc n) next records reply
 unfoldable pub advanced : List ℕ → List ℕ → List ℕ → List ℕ → List ℕ → Advanced
 advanced image samples next records reply =
     advancedBy (advanceRefusal image samples next reply) (loggerCalls .feed (stateAt image) (samplesOf samples) records) next records reply
+
+-- the count of a day: its answer, and the reply as it leaves it
+pub record CountedDay : Type 0 where
+  pub number : ℕ
+  pub reply : List ℕ
+
+abbrev pub countedTo : ℕ → List ℕ → CountedDay
+countedTo number reply = record { number = number; reply = reply }
+
+-- both counts, then whether each is over, and the reply's further bytes as they were
+unfoldable pub dayReplied : DayCount → List ℕ → List ℕ
+dayReplied day reply =
+    over (row dayReplyWidths (day .second .count ∷ day .first .count ∷ flag (day .second .over) ∷ flag (day .first .over) ∷ [])) reply
+
+-- 02's refusals, then 13 for a reply that is shorter; else 0
+abbrev pub countedBy : Answered DayCount → List ℕ → CountedDay
+countedBy (refused n) reply = countedTo n reply
+countedBy (accepted day) reply = if dayReplyLength ≤ᵇ length reply then countedTo 0 (dayReplied day reply) else countedTo 13 reply
+
+unfoldable pub counted : List ℕ → List ℕ → ℕ → Bool → ℕ → List ℕ → CountedDay
+counted settings records z above day reply = countedBy (dayCounted settings records z above day) reply

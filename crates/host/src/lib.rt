@@ -1,4 +1,6 @@
-// The two calls for a host program in C, on byte slices. Each returns 0 or 01's number of the refusal.
+// The calls for a host program in C, on byte slices: begin and advance of 01, and 02's count per day. Each returns 0 or the papers' number of the refusal.
+use day_count::Counted;
+use day_count::DayCount;
 use image::Acceptance;
 use logger::Fed;
 use logger::Logger;
@@ -7,20 +9,29 @@ use reading::Told;
 use records::RECORD_LENGTH;
 use settings::Settings;
 ghost use mathlib.Core.Path.{_≡_};
+ghost use mathlib.Core.Bool.{not};
 ghost use Prim.Native.Nat.{_≤_, min};
 ghost use lib.ListN.{length};
+ghost use Rattle.octets.specs.Bytes.{row, total};
+ghost use Rattle.numbers.specs.Notation.{_≡ᵇ_};
 ghost use Rattle.settings.specs.Settings.{ValidSettings};
 ghost use Rattle.samples.specs.Samples.{samplesOf};
 ghost use Rattle.state.specs.State.{ValidState};
 ghost use Rattle.logger.specs.Logger.{fedTo};
 ghost use Rattle.logger.specs.Calls.{loggerCalls};
-ghost use Rattle.reading.specs.Layout.{replyLength};
-ghost use Rattle.host.specs.Host.{begunTo, begun, replied, advancedTo, advanced};
+ghost use Rattle.reading.specs.Engineer.{over};
+ghost use Rattle.reading.specs.Layout.{replyLength, dayReplyLength};
+ghost use Rattle.host.specs.Host.{begunTo, begun, replied, advancedTo, advanced, dayReplied, countedTo, counted};
 
 // A reply: taken, written, why.
 const REPLY_LENGTH: usize = 24;
 
 const REPLY_WIDTHS: [u8; 3] = [8; 3];
+
+// A day's reply: both counts, then whether each is over.
+const DAY_REPLY_LENGTH: usize = 32;
+
+const DAY_REPLY_WIDTHS: [u8; 4] = [8; 4];
 
 // How many samples are decoded at a time.
 const CHUNK: usize = 1024;
@@ -93,14 +104,39 @@ fn feed_chunks(logger: Logger, bytes: &[u8], records: &mut [u8]) -> Fed
     }
 }
 
-// Taken, written and why into the first bytes of a reply.
+// A row of numbers into the first bytes of a reply, as many as its widths make.
+fn put_front(reply: &mut [u8], size: usize, widths: &[u8], numbers: &[u64])
+    requires { ⌜ (length (now numbers) ≡ length (now widths)) × (size ≡ total (now widths)) × (size ≤ length (now reply)) ⌝ }
+    ensures { λ _. ⌜ now (reply .exit) ≡ over (row (now (widths .entry)) (now (numbers .entry))) (now (reply .entry)) ⌝ }
+{
+    octets::put_row(&mut reply[0..size], widths, numbers);
+}
+
+// Taken, written and why.
 fn put_reply(reply: &mut [u8], told: Told)
     requires { ⌜ replyLength ≤ length (now reply) ⌝ }
     ensures { λ _. ⌜ now (reply .exit) ≡ replied told (now (reply .entry)) ⌝ }
 {
     let widths = REPLY_WIDTHS;
     let numbers = [told.taken as u64, told.written as u64, told.why as u64];
-    octets::put_row(&mut reply[0..REPLY_LENGTH], &widths, &numbers);
+    put_front(reply, REPLY_LENGTH, &widths, &numbers);
+}
+
+// A day's two counts, and whether each is over.
+fn put_day(reply: &mut [u8], day: DayCount)
+    requires { ⌜ dayReplyLength ≤ length (now reply) ⌝ }
+    ensures { λ _. ⌜ now (reply .exit) ≡ dayReplied day (now (reply .entry)) ⌝ }
+{
+    let widths = DAY_REPLY_WIDTHS;
+    let second = day.second;
+    let first = day.first;
+    let numbers = [
+        second.count,
+        first.count,
+        numbers::flag(second.over) as u64,
+        numbers::flag(first.over) as u64,
+    ];
+    put_front(reply, DAY_REPLY_LENGTH, &widths, &numbers);
 }
 
 // Writes the image of a fresh logger.
@@ -147,6 +183,32 @@ pub extern "C" fn pq_advance(
             let told = fed.told;
             put_reply(reply, told);
             after.save(next)
+        }
+    }
+}
+
+// Counts the rapid voltage changes of a day in a list of records; `above` is 0 up to 35 kV, and any other number above. The reply tells both counts, and
+// whether each is over its cap.
+#[no_mangle]
+pub extern "C" fn pq_count_day(
+    settings: &[u8],
+    records: &[u8],
+    z: u64,
+    above: u32,
+    day: u64,
+    reply: &mut [u8],
+) -> u32
+    ensures { λ r. ⌜ countedTo r (now (reply .exit))
+        ≡ counted (now (settings .entry)) (now (records .entry)) z (not (above ≡ᵇ 0)) day (now (reply .entry)) ⌝ }
+{
+    match day_count::count_day(settings, records, z, above != 0, day) {
+        Counted::Refused(number) => number,
+        Counted::Day(count) => {
+            if reply.len() < DAY_REPLY_LENGTH {
+                return 13;
+            }
+            put_day(reply, count);
+            0
         }
     }
 }

@@ -12,7 +12,7 @@ use Rattle.settings.specs.Settings.{settingsLength, settingsRefusal}
 use Rattle.reading.specs.declared.Event.{Event}
 use Rattle.reading.specs.declared.Record.{Record}
 use Rattle.reading.specs.Values.{values}
-use Rattle.reading.specs.Layout.{recordLength, gathererLength, valuesLength, eventsLength, imageLength, replyLength}
+use Rattle.reading.specs.Layout.{recordLength, gathererLength, valuesLength, eventsLength, imageLength, replyLength, dayReplyLength}
 use Rattle.reading.specs.Layout.{settingsOffset, gathererOffset, valuesOffset, eventsOffset}
 use Rattle.reading.specs.Records.{events, recordBytes, recordsAt}
 use Rattle.reading.specs.Clipping.{marks}
@@ -24,11 +24,11 @@ use Rattle.reading.specs.Engineer.{readings, emptyDesk, answer}
 use Rattle.reading.specs.Engineer.Call.{feed}
 use Rattle.reading.specs.Engineer.Answer.{fed}
 
--- 01's settings Q, with an M, a U, a T and an H
-abbrev pub qOf : ℕ → ℕ → ℕ → ℕ → Settings
-qOf m u t h = record {
+-- 01's settings Q, with an M, an F, a U, a T and an H
+abbrev pub qOf : ℕ → ℕ → ℕ → ℕ → ℕ → Settings
+qOf m f u t h = record {
   samples = m;
-  frequency = 50;
+  frequency = f;
   declared = u;
   limit = t;
   reduction = h;
@@ -39,14 +39,14 @@ qOf m u t h = record {
 }
 
 abbrev pub qWith : ℕ → ℕ → ℕ → Settings
-qWith m t h = qOf m 1600 t h
+qWith m t h = qOf m 50 1600 t h
 
 abbrev pub q : Settings
 q = qWith 8 300 150
 
 -- with another U
 abbrev pub qLoud : ℕ → Settings
-qLoud u = qOf 8 u 300 150
+qLoud u = qOf 8 50 u 300 150
 
 -- n samples x
 abbrev pub repeated : ℕ → ℕ → List ℤ
@@ -305,8 +305,8 @@ pub record BenchReadings : Type 0 where
   -- in a change a clipped value counts once it has left the window: value 151 at V = 251
   pub change-unmarked : changeMarkAfter 251 ≡ 0
   pub change-marked : changeMarkAfter 252 ≡ 1
-  -- a record, the settings, the image and the reply: 20, 36, 764 and 24 bytes; offset and length of each body
-  pub lengths : recordLength ∷ settingsLength ∷ imageLength ∷ replyLength ∷ [] ≡ 20 ∷ 36 ∷ 764 ∷ 24 ∷ []
+  -- a record, the settings, the image and the two replies: 20, 36, 764, 24 and 32 bytes; offset and length of each body
+  pub lengths : recordLength ∷ settingsLength ∷ imageLength ∷ replyLength ∷ dayReplyLength ∷ [] ≡ 20 ∷ 36 ∷ 764 ∷ 24 ∷ 32 ∷ []
   pub sections :
       settingsOffset ∷ settingsLength ∷ gathererOffset ∷ gathererLength ∷ valuesOffset ∷ valuesLength ∷ eventsOffset ∷ eventsLength ∷ []
       ≡ 32 ∷ 36 ∷ 68 ∷ 32 ∷ 100 ∷ 604 ∷ 704 ∷ 60 ∷ []

@@ -1,4 +1,5 @@
--- 01, "The record", "The image" and the reply of advance: how wide each number is. Lengths and places follow as sums; 01's and 02's own figures are `lengths` and `sections` of Bench.
+-- 01, "The record", "The image" and the replies to a host: how wide each number is. Lengths and places follow as sums; the papers' figures, and the 32 bytes of
+-- a day's reply, are `lengths` and `sections` of Bench.
 use mathlib.Core.List.{List, [], _∷_, _++_}
 use Prim.Native.Nat.{ℕ, _+_, _*_}
 use lib.ListN.{replicate}
@@ -65,3 +66,10 @@ replyWidths = 8 ∷ 8 ∷ 8 ∷ []
 
 abbrev pub replyLength : ℕ
 replyLength = total replyWidths
+
+-- and the reply of a day's count: both counts, then whether each is over
+abbrev pub dayReplyWidths : List ℕ
+dayReplyWidths = 8 ∷ 8 ∷ 8 ∷ 8 ∷ []
+
+abbrev pub dayReplyLength : ℕ
+dayReplyLength = total dayReplyWidths

@@ -1,2 +1,3 @@
 pub mod Due
 pub mod DueLaws
+pub mod ListLaws

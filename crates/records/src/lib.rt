@@ -6,11 +6,11 @@ ghost use mathlib.Core.Path.{_≡_};
 ghost use mathlib.Core.List.{[], _∷_};
 ghost use Prim.Native.Nat.{_+_, _*_, _≤_};
 ghost use lib.ListN.{length};
-ghost use Rattle.reading.specs.Records.{recordBytes};
+ghost use Rattle.reading.specs.Records.{recordBytes, eventOf};
 ghost use Rattle.reading.specs.Engineer.{over};
 ghost use Rattle.reading.specs.Layout.{recordLength};
 ghost use Rattle.threshold.specs.Standing.{listOf};
-ghost use Rattle.records.specs.Due.{recordsOf, eventOf, placed};
+ghost use Rattle.records.specs.Due.{recordsOf, placed};
 
 // A record: kind, mark, zero bytes, start, duration, first and second magnitude.
 pub const RECORD_LENGTH: usize = 20;

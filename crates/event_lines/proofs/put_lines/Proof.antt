@@ -4,8 +4,9 @@ use Prim.Native.Nat.{ℕ, _-_, _*_, _≤_}
 use native.Mathlib.Omega.{arith}
 use lib.ListN.{length}
 use borrow.Author.Needs.{needs}
+use Rattle.records.specs.ListLaws.{record-length}
 use Rattle.event_lines.specs.Text.{linesOf, Put}
-use Rattle.event_lines.specs.TextLaws.{put-nothing, put-as, record-length, lines-next}
+use Rattle.event_lines.specs.TextLaws.{put-nothing, put-as, lines-next}
 use Rattle.event_lines.proofs.put_lines.Statement.{statement}
 use Rattle.event_lines.proofs.put_lines.Tie as tie
 

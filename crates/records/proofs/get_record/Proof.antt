@@ -7,7 +7,7 @@ use Rattle.octets.specs.Bytes.{Bytes}
 use Rattle.octets.specs.BytesLaws.{bytes-by}
 use Rattle.octets.specs.RowLaws.{numbersIn-fit}
 use Rattle.reading.specs.Layout.{recordWidths}
-use Rattle.records.specs.Due.{eventFrom}
+use Rattle.reading.specs.Records.{eventFrom}
 use Rattle.records.proofs.get_record.Statement.{statement}
 use Rattle.records.proofs.get_record.Tie as tie
 

@@ -1,0 +1,5 @@
+pub mod Days
+pub mod DayBench
+pub mod DayBenchProof
+pub mod Count
+pub mod CountLaws
