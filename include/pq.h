@@ -35,7 +35,7 @@ extern "C" {
 
 /* The version, as three numbers and as a text; in two steps, so that each name becomes its number. */
 #define PQ_VERSION_MAJOR 2
-#define PQ_VERSION_MINOR 1
+#define PQ_VERSION_MINOR 2
 #define PQ_VERSION_PATCH 0
 #define PQ_VERSION PQ_DOTTED(PQ_VERSION_MAJOR, PQ_VERSION_MINOR, PQ_VERSION_PATCH)
 #define PQ_DOTTED(major, minor, patch) PQ_TEXT(major) "." PQ_TEXT(minor) "." PQ_TEXT(patch)

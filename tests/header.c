@@ -169,9 +169,9 @@ static void check_change(void)
 static void check_lengths(void)
 {
     IS(PQ_VERSION_MAJOR, 2);
-    IS(PQ_VERSION_MINOR, 1);
+    IS(PQ_VERSION_MINOR, 2);
     IS(PQ_VERSION_PATCH, 0);
-    same_text("PQ_VERSION", "2.1.0", PQ_VERSION);
+    same_text("PQ_VERSION", "2.2.0", PQ_VERSION);
     IS(PQ_SETTINGS_SIZE, 36);
     IS(PQ_IMAGE_SIZE, 764);
     IS(PQ_SAMPLE_SIZE, 2);

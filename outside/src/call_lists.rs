@@ -13,6 +13,7 @@ use crate::rng::{one_of, Rng};
 use crate::room::RECORD;
 use crate::rules::{self, settings_bytes, Settings, IMAGE};
 use crate::seen::tell;
+use crate::stands::Stands;
 use crate::{clips, stepper, waves};
 use std::process::exit;
 
@@ -24,7 +25,8 @@ const ROOM: usize = 400;
 /// The lists that the gate runs the program on in one go, by their numbers under a seed: together
 /// they have everything that is counted.
 const FILES_SEED: u64 = 1;
-const FILES_LISTS: [u64; 11] = [26, 29, 95, 440, 562, 764, 953, 1752, 2380, 5862, 6472];
+const FILES_LISTS: [u64; 14] =
+    [849, 2010, 3722, 4790, 7068, 7911, 8803, 9608, 9853, 9934, 9964, 9979, 9981, 9990];
 
 /// The kinds of item, in the program's numbers.
 const START: u8 = 0;
@@ -46,6 +48,8 @@ pub struct Tally {
     /// Records, by kind, 1 to 4, without and with the mark; and the marks of images.
     records: [[u64; 2]; 5],
     marks: Marks,
+    /// What dips and swells that stand before a change have shown.
+    stands: Stands,
     /// Phases, and dips, swells and interruptions that stand, in what look tells.
     phases: [u64; 4],
     stand: [u64; 3],
@@ -97,6 +101,7 @@ impl Tally {
             add(format!("skipped: {name}"), count);
         }
         list.extend(self.marks.image_counts());
+        list.extend(self.stands.recording_counts());
         list
     }
 }
@@ -278,7 +283,11 @@ impl List {
                     Err(number) => (number, Vec::new()),
                 };
                 if number == 0 {
-                    seen.marks.image(&Fields::of(&image));
+                    let fields = Fields::of(&image);
+                    seen.marks.image(&fields);
+                    if measure.held.is_none() {
+                        seen.stands.image(&measure.engineer.readings(), &fields);
+                    }
                 }
                 seen.refusals[number as usize] += 1;
                 (SAVE, 0, format!("save {number} {}", buffer(length, fill, &image)))
@@ -370,6 +379,7 @@ pub fn list(rng: &mut Rng, seen: &mut Tally) -> List {
             list.call(Call::Save { length: IMAGE }, fill, &mut measure, seen);
             if measure.held.is_none() {
                 assert_eq!(measure.engineer.written(), measure.engineer.due());
+                seen.stands.recording(&measure.engineer.readings());
             }
         }
     }

@@ -4,9 +4,10 @@
 use crate::hosts::{demand, Lengths, Outcome, Run};
 use crate::images::{self, Fields};
 use crate::logger::Logger;
+use crate::readings::{Readings, Record};
 use crate::rng::{one_of, Rng};
-use crate::rules::{self, settings_bytes, Settings, IMAGE};
-use crate::{clips, pairs, waves};
+use crate::rules::{self, settings_bytes, Settings, IMAGE, RECORD};
+use crate::{clips, pairs, stands, waves};
 
 impl Run<'_> {
     /// One case.
@@ -15,7 +16,8 @@ impl Run<'_> {
             0..=9 => self.settings_case(rng),
             10..=44 => self.list_case(rng),
             45..=47 => self.day_case(rng),
-            48..=76 => self.image_case(rng),
+            48..=74 => self.image_case(rng),
+            75..=76 => self.stands_case(rng),
             77..=90 => self.damaged_case(rng),
             91..=95 => self.program_case(rng),
             _ => self.three_case(rng),
@@ -42,7 +44,7 @@ impl Run<'_> {
     /// Advances from an accepted image, built directly or saved and then changed.
     fn image_case(&mut self, rng: &mut Rng) -> Outcome<()> {
         let s = waves::settings(rng);
-        let mut image = match rng.range(0, 9) {
+        let image = match rng.range(0, 9) {
             0 => pairs::pair(rng, s).accepted.bytes(),
             1..=2 => {
                 let saved = recorded(rng, &s);
@@ -55,13 +57,44 @@ impl Run<'_> {
             }
             _ => images::accepted(rng, s),
         };
-        demand(rules::restore(&image) == 0, || "the built image is not accepted".into())?;
         let s = Fields::of(&image).s;
-        self.kept_image(&image)?;
-
         let halves = one_of(&[1, 3, 30, s.n + 5, 2 * s.n + 5], rng);
         let halves = if s.m > 40 { halves.min(s.n + 5) } else { halves };
-        let samples = waves::bytes(&clips::wave(rng, &s, halves));
+        let samples = clips::wave(rng, &s, halves);
+        self.advances(rng, &image, &samples)?;
+        Ok(())
+    }
+
+    /// Advances from an image as the edition before saved it in a change, or from a steady one that no
+    /// recording gives, with events that stand before a step.
+    fn stands_case(&mut self, rng: &mut Rng) -> Outcome<()> {
+        let s = waves::settings(rng);
+        match edition_before(rng, s) {
+            Some((image, samples, record)) if rng.chance(50) => {
+                let records = self.advances(rng, &image.bytes(), &samples)?;
+                let change = stands::change(&records, record.start);
+                demand(change.is_none_or(|x| x == record.bytes()), || {
+                    format!("the record of the change is {change:?}, not {record:?}")
+                })?;
+                self.seen.stands.edition_before(&image, &records);
+            }
+            _ => {
+                let (image, samples) = images::before_a_step(rng, s);
+                self.advances(rng, &image.bytes(), &samples)?;
+            }
+        }
+        Ok(())
+    }
+
+    /// Advances over samples from an accepted image, block by block; gives the records written.
+    fn advances(&mut self, rng: &mut Rng, image: &[u8], samples: &[i16]) -> Outcome<Vec<u8>> {
+        demand(rules::restore(image) == 0, || "the built image is not accepted".into())?;
+        self.kept_image(image)?;
+        let first = Fields::of(image);
+        let s = first.s;
+        let mut image = image.to_vec();
+        let mut written = Vec::new();
+        let samples = waves::bytes(samples);
         let mut left = &samples[..];
         for _ in 0..rng.range(1, 5) {
             let most = left.len() as i64 / 2;
@@ -78,10 +111,12 @@ impl Run<'_> {
             demand(x.number == 0, || format!("an accepted image gives {}", x.number))?;
             demand(rules::restore(&x.image[..IMAGE]) == 0, || "the new image is refused".into())?;
             left = &left[2 * x.reply(0) as usize..];
+            written.extend(&x.records[..RECORD * x.reply(1) as usize]);
             image = x.image[..IMAGE].to_vec();
             self.kept_image(&image)?;
         }
-        Ok(())
+        self.seen.stands.accepted(&first, &written);
+        Ok(written)
     }
 
     /// The logger of an accepted image looks as its bodies say, and saves the same image.
@@ -166,6 +201,21 @@ fn recorded(rng: &mut Rng, s: &Settings) -> Vec<u8> {
     let mut logger = Logger::start(&settings_bytes(s)).unwrap();
     logger.feed(&samples.as_chunks::<2>().0[..cut], &mut vec![0; 80 * 800]);
     image_of(&logger)
+}
+
+/// An image in a change that the edition before recorded, since it did not ask what stood at k − 1, as
+/// it was saved then; the samples after it; and the record.
+fn edition_before(rng: &mut Rng, s: Settings) -> Option<(Fields, Vec<i16>, Record)> {
+    let samples = waves::recovery_wave(rng, &s);
+    let x = Readings::of(s, &samples);
+    let mut changes = x.changes().into_iter();
+    let (k, m) = changes.find(|&(k, m)| x.dip_or_swell_stands(k - 1) && !x.begins_in(k, m))?;
+    let record = x.change_record(k, m);
+    let halves = rng.range(k + 1, m);
+    let saved = (halves * s.m + rng.range(0, s.m - 1)) as usize;
+    let x = Readings::of(s, &samples[..saved]);
+    let image = Fields::of(&x.image()).but(|image| image.change[3] = x.first_stand(k) as u32);
+    Some((image, samples[saved..].to_vec(), record))
 }
 
 /// One byte changed, anywhere.

@@ -3,6 +3,7 @@
 use crate::engineer::Looked;
 use crate::rng::{one_of, Rng};
 use crate::rules::{eight, four, settings, settings_bytes, table, Settings, IMAGE, TOP};
+use crate::waves::half;
 
 /// The numbers of an image.
 #[derive(Clone, Debug)]
@@ -19,7 +20,7 @@ pub struct Fields {
     pub places: [u32; 120],
     pub place_marks: [u8; 120],
     pub phase: u32,
-    /// k, A(k − 1), greatest difference, first stand.
+    /// k, A(k − 1), greatest difference, first stand, which is k for one that stood at k − 1.
     pub change: [u32; 4],
     /// Start and magnitude of the dip, swell, interruption.
     pub events: [u32; 6],
@@ -168,6 +169,34 @@ pub fn accepted(rng: &mut Rng, s: Settings) -> Vec<u8> {
     x.bytes()
 }
 
+/// Steady at U with events that its values do not show, most often an interruption alone; and samples
+/// whose first value most often begins a change and no event.
+pub fn before_a_step(rng: &mut Rng, s: Settings) -> (Fields, Vec<i16>) {
+    let end = u32::MAX as i64;
+    let v = one_of(&[s.n + 1, rng.range(s.n, 4 * s.n), end - rng.range(0, 300)], rng);
+    let mut x = Fields::fresh(s).but(|x| x.whole = 1).with_v(v as u32);
+    x.last = nominal_half(&s);
+    x.phase = 2;
+    for (e, percent) in [15, 15, 80].into_iter().enumerate() {
+        if rng.chance(percent) {
+            x.events[2 * e] = one_of(&[1, v, rng.range(1, v)], rng) as u32;
+            x.events[2 * e + 1] = rng.range(0, TOP) as u32;
+        }
+    }
+    marks(rng, &mut x);
+    // The first value is halfway.
+    let step = one_of(&[-1, 1], rng) * (rng.range(2 * s.t, 3 * s.t) * s.u / 10_000 + 2);
+    let r = (s.u + step).clamp(0, TOP);
+    let mut samples = Vec::new();
+    (0..s.n + rng.range(2, 8)).for_each(|_| half(rng, s.m, r, 0, &mut samples));
+    (x, samples)
+}
+
+/// The sum of a half-cycle that gives U with another such one.
+fn nominal_half(s: &Settings) -> u64 {
+    ((s.u * s.u * s.m + 255) / 256) as u64
+}
+
 /// Marks where they are used: all, none, one by one, or few.
 fn marks(rng: &mut Rng, x: &mut Fields) {
     let percent = one_of(&[0, 2, 50, 100], rng);
@@ -221,7 +250,7 @@ fn on_limit(rng: &mut Rng, x: &mut Fields) {
         x.places[j as usize] = (s.u + sign * off) as u32;
     }
     // The last half was nominal, so that one more nominal half gives U.
-    x.last = ((s.u * s.u * s.m + 255) / 256) as u64;
+    x.last = nominal_half(&s);
     x.sum = 0;
     x.count = 0;
 }

@@ -47,4 +47,5 @@ pub mod pairs;
 pub mod programs;
 pub mod rng;
 pub mod seen;
+pub mod stands;
 pub mod waves;

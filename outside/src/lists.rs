@@ -50,6 +50,9 @@ impl Run<'_> {
             };
             let at = |text: String| format!("{s:?}, call {j} ({}): {text}", describe(&call));
             let answer = engineer.call(&call);
+            if let Answer::Save(0, image) = &answer {
+                self.seen.stands.image(&engineer.readings(), &Fields::of(image));
+            }
             let image = image_of(&logger);
             self.run_call(&mut logger, &call, &answer, &mut list, rng).map_err(at)?;
             if let (Call::Feed { block, room }, Answer::Feed(fed, _)) = (&call, &answer) {
@@ -64,8 +67,11 @@ impl Run<'_> {
         demand(written == list.written, || "the logger's records are not those due".into())?;
         demand(engineer.image() == image_of(&logger), || "the last images differ".into())?;
         self.seen.dropped += engineer.changes_dropped() as u64;
-        self.seen.marks.records(&engineer.readings());
-        self.seen.marks.image(&Fields::of(&engineer.image()));
+        let (readings, image) = (engineer.readings(), Fields::of(&engineer.image()));
+        self.seen.marks.records(&readings);
+        self.seen.marks.image(&image);
+        self.seen.stands.recording(&readings);
+        self.seen.stands.image(&readings, &image);
         Ok(())
     }
 

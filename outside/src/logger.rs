@@ -61,7 +61,7 @@ impl Event {
     }
 }
 
-/// What a change in progress carries.
+/// What a change in progress carries. `stand` is k also for a dip or swell that stood at k − 1.
 #[derive(Clone, Copy)]
 pub struct Change {
     pub k: u32,
@@ -228,6 +228,9 @@ impl Logger {
             _ if self.calm(r, sum, self.limits.calm) => Phase::Steady,
             Phase::Steady => {
                 let before = self.window_sum;
+                // What stands after V drops the change as what first stands at k does.
+                let stood = self.dip.start > 0 || self.swell.start > 0;
+                let stand = if stood { i } else { stand };
                 Phase::Change(Change { k: i, before, greatest: 0, stand, clipped: false })
             }
             Phase::Filling | Phase::NeverSteady => Phase::NeverSteady,

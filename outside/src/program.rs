@@ -78,11 +78,13 @@ pub fn by_logger(input: &[u8]) -> Text {
 }
 
 /// The recording in crates/event_log: under Q, a change, a swell, a dip with an interruption in it, a
-/// change that a dip hides; then a random wave, a dip that does not end, and an odd last byte.
+/// change that a dip hides; a long dip that hides the change into it and the one out of it; then a
+/// random wave, a dip that does not end, and an odd last byte.
 pub fn recording() -> Vec<u8> {
     let mut samples = Vec::new();
     let steps = [(150, 100), (110, 96), (20, 115), (110, 98), (9, 60), (4, 2), (3, 70), (120, 100)];
-    for (halves, count) in steps {
+    let long_dip = [(130, 88), (110, 100)];
+    for (halves, count) in steps.into_iter().chain(long_dip) {
         samples.extend(vec![count; 8 * halves]);
     }
     samples.extend(waves::wave(&mut Rng::new(1), &Q, 1500));

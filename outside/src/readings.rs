@@ -145,8 +145,13 @@ impl<'a> Readings<'a> {
         self.signal[(k - 1) as usize] && !self.signal[k as usize]
     }
 
+    /// Whether a dip or a swell stands after i.
+    pub fn dip_or_swell_stands(&self, i: i64) -> bool {
+        self.dip[i as usize] || self.swell[i as usize]
+    }
+
     /// Whether a dip or a swell first stands at i.
-    fn dip_or_swell_begins(&self, i: i64) -> bool {
+    pub fn dip_or_swell_begins(&self, i: i64) -> bool {
         begins(&self.dip, i) || begins(&self.swell, i)
     }
 
@@ -163,7 +168,8 @@ impl<'a> Readings<'a> {
             let clipped = |a, z| self.any_clipped(a, z);
             list.extend(event_records(kind, stands, clipped, |a, z| self.magnitude(kind, a, z)));
         }
-        self.change_records(&mut list);
+        let changes = self.changes().into_iter().filter(|&(k, m)| !self.dropped(k, m));
+        list.extend(changes.map(|(k, m)| self.change_record(k, m)));
         list.sort_by_key(|x| (x.due, x.kind));
         list
     }
@@ -189,21 +195,28 @@ impl<'a> Readings<'a> {
         .collect()
     }
 
-    fn change_records(&self, list: &mut Vec<Record>) {
+    /// Whether a change from k to m gives no record: a dip or swell stands at k − 1, or first stands
+    /// in it.
+    pub fn dropped(&self, k: i64, m: i64) -> bool {
+        self.dip_or_swell_stands(k - 1) || self.begins_in(k, m)
+    }
+
+    /// Whether a dip or swell first stands in a change from k to m: at some value from k to m − N.
+    pub fn begins_in(&self, k: i64, m: i64) -> bool {
+        (k..=m - self.s.n).any(|j| self.dip_or_swell_begins(j))
+    }
+
+    /// The record of a change from k to m that is not dropped.
+    pub fn change_record(&self, k: i64, m: i64) -> Record {
         let n = self.s.n;
-        for (k, m) in self.changes() {
-            if (k..=m - n).any(|j| self.dip_or_swell_begins(j)) {
-                continue;
-            }
-            list.push(Record {
-                due: m,
-                kind: 4,
-                clipped: self.any_clipped(k, m - n),
-                start: k,
-                duration: m - n - k,
-                first: self.greatest_difference(k, m - n),
-                second: (self.a(m) - self.a(k - 1)).abs(),
-            });
+        Record {
+            due: m,
+            kind: 4,
+            clipped: self.any_clipped(k, m - n),
+            start: k,
+            duration: m - n - k,
+            first: self.greatest_difference(k, m - n),
+            second: (self.a(m) - self.a(k - 1)).abs(),
         }
     }
 
@@ -243,6 +256,11 @@ impl<'a> Readings<'a> {
         } else {
             None
         }
+    }
+
+    /// The first value from k on at which a dip or swell first stands, 0 if none.
+    pub fn first_stand(&self, k: i64) -> i64 {
+        (k..=self.v()).find(|&j| self.dip_or_swell_begins(j)).unwrap_or(0)
     }
 
     /// The image.
@@ -296,7 +314,8 @@ impl<'a> Readings<'a> {
             put4(b, k);
             put4(b, self.a(k - 1));
             put4(b, self.greatest_difference(k, left));
-            put4(b, (k..=v).find(|&j| self.dip_or_swell_begins(j)).unwrap_or(0));
+            // One that stood at k − 1 is held as k, also where another first stands later.
+            put4(b, if self.dip_or_swell_stands(k - 1) { k } else { self.first_stand(k) });
         } else {
             b.extend([0; 16]);
         }

@@ -5,6 +5,7 @@ use crate::marks::Marks;
 use crate::pairs::{pairs, rules};
 use crate::room::RECORD;
 use crate::rules::Q;
+use crate::stands::Stands;
 use crate::three;
 use std::collections::BTreeMap;
 
@@ -30,6 +31,8 @@ pub struct Seen {
     /// Changes that a dip or swell dropped, and advances from images built directly.
     pub dropped: u64,
     pub built: u64,
+    /// What events that stand before a change have shown.
+    pub stands: Stands,
     /// Recordings read as the event program does, and those that a program was run on.
     pub texts: u64,
     pub programs: u64,
@@ -81,6 +84,9 @@ impl Seen {
         }
         add("changes dropped".into(), self.dropped);
         add("built images".into(), self.built);
+        for (name, count) in self.stands.counts() {
+            add(name, count);
+        }
         for (why, &count) in self.whys.iter().enumerate() {
             add(format!("why {why}"), count);
         }

@@ -18,7 +18,8 @@ struct State {
     /// The last values, oldest first, each with its mark.
     kept: Vec<(i64, bool)>,
     phase: i64,
-    /// k, A(k − 1), greatest difference, first stand; and the mark.
+    /// k, A(k − 1), greatest difference, first stand, which is k for one that stood at k − 1; and the
+    /// mark.
     change: [i64; 4],
     change_clipped: bool,
     events: [Event; 3],
@@ -147,6 +148,7 @@ impl State {
         let s = self.s;
         let i = self.v + 1;
         let mut records = Vec::new();
+        let dip_or_swell_stood = self.events[0].start > 0 || self.events[1].start > 0;
         let mut dip_or_swell_begins = false;
 
         // The dip, the swell, the interruption.
@@ -191,7 +193,8 @@ impl State {
         } else if self.phase == 2 {
             if !calm(s.t) {
                 self.phase = 3;
-                self.change = [i, before, 0, if dip_or_swell_begins { i } else { 0 }];
+                let drops = dip_or_swell_stood || dip_or_swell_begins;
+                self.change = [i, before, 0, if drops { i } else { 0 }];
                 self.change_clipped = false;
             }
         } else {

@@ -94,12 +94,17 @@ pub fn bad_settings(rng: &mut Rng) -> Vec<u8> {
     bytes
 }
 
+/// About the greatest step that is calm under this limit: a step by x puts the newest value
+/// (N − 1) × x above or below the sum.
+fn calm_step(s: &Settings, t: i64) -> i64 {
+    (t * s.n * s.u / 10_000) / (s.n - 1)
+}
+
 /// A level to aim at, in sixteenths of a count, given the level before.
 fn level(rng: &mut Rng, s: &Settings, before: i64) -> i64 {
     let part = |hundredths: i64| hundredths * s.u / 10_000;
     let near = rng.range(-1, 1);
-    // A step by x puts the newest value (N − 1) × x above or below the sum.
-    let step = |t: i64| (t * s.n * s.u / 10_000) / (s.n - 1);
+    let step = |t: i64| calm_step(s, t);
     let sign = one_of(&[-1, 1], rng);
     let x = match rng.range(0, 19) {
         0..=3 => s.u,
@@ -159,6 +164,39 @@ pub fn half(rng: &mut Rng, m: i64, r: i64, style: i64, out: &mut Vec<i16>) {
     }
 }
 
+/// Levels, each for so many half-cycles: a long rest in a dip or swell or beside one, perhaps a few
+/// values across its limits, and a step that begins a change. So one stands before the change, or has
+/// just ended.
+fn recovery(rng: &mut Rng, s: &Settings) -> Vec<(i64, i64)> {
+    let part = |hundredths: i64| hundredths * s.u / 10_000;
+    // A level at which it stands, one at which it ends, and the way out.
+    let dip = (part(s.d) - 1, part(s.d + s.g) + 1, 1);
+    let swell = (part(s.w) + 1, part(s.w - s.g), -1);
+    let (stands, ends, out) = one_of(&[dip, swell], rng);
+    let deep = stands - out * rng.range(0, part(500));
+    let mut r = one_of(&[deep, stands, (stands + ends) / 2, ends], rng);
+    let mut steps = vec![(r, s.n + rng.range(1, 10))];
+    for across in [stands, ends] {
+        if rng.chance(60) {
+            r = across;
+            steps.push((r, one_of(&[1, 2, 2, 3], rng)));
+        }
+    }
+    let wide = calm_step(s, s.t) * rng.range(1, 4) + 1;
+    let r = one_of(&[r + out * wide, r + out * wide, r - out * wide, s.u], rng);
+    steps.push((r, s.n + rng.range(2, 8)));
+    steps.iter().map(|&(r, halves)| (r.clamp(0, TOP), halves)).collect()
+}
+
+/// The waveform of such levels alone.
+pub fn recovery_wave(rng: &mut Rng, s: &Settings) -> Vec<i16> {
+    let mut out = Vec::new();
+    for (r, halves) in recovery(rng, s) {
+        (0..halves).for_each(|_| half(rng, s.m, r, 0, &mut out));
+    }
+    out
+}
+
 /// A waveform of about this many half-cycles.
 pub fn wave(rng: &mut Rng, s: &Settings, halves: i64) -> Vec<i16> {
     let mut out = Vec::new();
@@ -167,25 +205,32 @@ pub fn wave(rng: &mut Rng, s: &Settings, halves: i64) -> Vec<i16> {
     let mut r = s.u;
     let mut last = 0;
     while done < halves {
-        if last > 0 || rng.chance(30) {
-            r = if rng.chance(60) && last < s.n { s.u } else { level(rng, s, r) };
-        }
-        let length = match rng.range(0, 9) {
-            0..=3 => rng.range(1, 4),
-            4..=5 => rng.range(1, 30),
-            6 => s.n + rng.range(-2, 3),
-            _ => s.n + rng.range(0, 20),
+        let steps = if rng.chance(if done == 0 { 15 } else { 5 }) {
+            recovery(rng, s)
+        } else {
+            if last > 0 || rng.chance(30) {
+                r = if rng.chance(60) && last < s.n { s.u } else { level(rng, s, r) };
+            }
+            let length = match rng.range(0, 9) {
+                0..=3 => rng.range(1, 4),
+                4..=5 => rng.range(1, 30),
+                6 => s.n + rng.range(-2, 3),
+                _ => s.n + rng.range(0, 20),
+            };
+            let first = done == 0 && rng.chance(80);
+            vec![(r, if first { s.n + rng.range(-1, 10) } else { length })]
         };
-        let length = if done == 0 && rng.chance(80) { s.n + rng.range(-1, 10) } else { length };
         if rng.chance(10) {
             style = rng.range(0, 4);
         }
         let wild = rng.chance(2);
-        for _ in 0..length.min(halves - done) {
-            half(rng, s.m, r, if wild { 5 } else { style }, &mut out);
+        for (level, length) in steps {
+            for _ in 0..length.min(halves - done) {
+                half(rng, s.m, level, if wild { 5 } else { style }, &mut out);
+            }
+            done += length;
+            (r, last) = (level, length);
         }
-        done += length;
-        last = length;
     }
     out
 }

@@ -1,12 +1,14 @@
-//! The paper's bench readings, marked [t], and the event program's example. Each feed goes through
-//! the engineer, the logger and every host (with the feature, the proved library too).
+//! The paper's bench readings, marked [t], the event program's example, and what stands before a change.
+//! Each feed goes through the engineer, the logger and every host (with the feature, the proved library
+//! too).
 
 mod common;
 
 use common::{bytes, feed, numbers, refuses_settings, Q};
 use outside::engineer::{Engineer, Fed, Looked};
 use outside::hosts::hosts;
-use outside::rules::IMAGE;
+use outside::images::Fields;
+use outside::rules::{self, IMAGE};
 use outside::{program, waves};
 
 /// Feeds all samples; gives what is told, the records, and a look.
@@ -100,6 +102,139 @@ fn the_same_at_other_limits() {
     assert_eq!(looked.phase, 2);
 }
 
+/// The records of all these half-cycles, under Q.
+fn records(list: &[(usize, i16)]) -> Vec<[u32; 5]> {
+    run(Q, &halves(list), 2000).1
+}
+
+/// The numbers of the image that these half-cycles leave, under Q.
+fn image(list: &[(usize, i16)]) -> Fields {
+    Fields::of(&feed(Q, &halves(list), 2000).image)
+}
+
+/// The image that every host leaves after these half-cycles, from this one, and the records that it
+/// writes.
+fn go_on(from: &Fields, list: &[(usize, i16)]) -> (Fields, Vec<[u32; 5]>) {
+    let given = from.bytes();
+    assert_eq!(rules::restore(&given), 0);
+    let left = hosts().into_iter().map(|host| {
+        let (mut new, mut records, mut reply) = ([0; IMAGE], [0; 200], [0; 24]);
+        let samples = waves::bytes(&halves(list));
+        assert_eq!((host.advance)(&given, &samples, &mut new, &mut records, &mut reply), 0);
+        let written = records[..20 * reply[8] as usize].chunks_exact(20);
+        (host.name, new, written.map(numbers).collect::<Vec<_>>())
+    });
+    let left: Vec<_> = left.collect();
+    for (name, new, records) in &left {
+        assert!(*new == left[0].1 && *records == left[0].2, "{name} and {}", left[0].0);
+    }
+    (Fields::of(&left[0].1), left[0].2.clone())
+}
+
+#[test]
+fn a_step_out_of_a_long_dip() {
+    assert_eq!(records(&[(130, 88), (103, 100)]), [[1, 1, 129, 1408, 0]]);
+    let x = image(&[(130, 88), (2, 100)]);
+    assert_eq!((x.phase, x.change), (3, [130, 140_800, 0, 130]));
+    // The same step where no dip stood.
+    assert_eq!(records(&[(130, 92), (103, 100)]), [[4, 130, 1, 12_800, 12_800]]);
+    assert_eq!(image(&[(130, 92), (2, 100)]).change, [130, 147_200, 0, 0]);
+}
+
+#[test]
+fn a_step_out_of_a_long_swell() {
+    assert_eq!(records(&[(130, 112), (103, 100)]), [[2, 1, 129, 1792, 0]]);
+    let x = image(&[(130, 112), (2, 100)]);
+    assert_eq!((x.phase, x.change), (3, [130, 179_200, 0, 130]));
+}
+
+/// Value 121 is 1424, and the only one below D; the change begins at 122.
+#[test]
+fn a_step_out_of_a_dip_of_one_value() {
+    assert_eq!(records(&[(120, 91), (2, 89), (103, 100)]), [[1, 121, 1, 1424, 0]]);
+    assert_eq!(image(&[(120, 91), (2, 89), (1, 100)]).change, [122, 145_552, 0, 122]);
+}
+
+/// Value 123 is 1472, at D + G, and the change begins at 124.
+#[test]
+fn a_dip_that_has_ended_before_the_change() {
+    let list = records(&[(120, 91), (2, 89), (2, 92), (103, 100)]);
+    assert_eq!(list, [[1, 121, 2, 1424, 0], [4, 124, 1, 14_440, 14_440]]);
+    let x = image(&[(120, 91), (2, 89), (2, 92), (2, 100)]);
+    assert_eq!((x.phase, x.change), (3, [124, 145_560, 0, 0]));
+    // In one step: value 130 is 1472, and still calm.
+    let list = records(&[(130, 89), (103, 95)]);
+    assert_eq!(list, [[1, 1, 129, 1424, 0], [4, 131, 1, 9552, 9552]]);
+}
+
+/// With one half-cycle of 92 no value is at D + G before the change, which begins at 123.
+#[test]
+fn a_dip_that_ends_with_the_change() {
+    assert_eq!(records(&[(120, 91), (2, 89), (1, 92), (103, 100)]), [[1, 121, 2, 1424, 0]]);
+    let x = image(&[(120, 91), (2, 89), (1, 92), (2, 100)]);
+    assert_eq!((x.change, x.events[0]), ([123, 145_544, 0, 123], 0));
+}
+
+/// From one dip into a deeper one: the same dip drops it, which does not end.
+#[test]
+fn a_dip_that_goes_on() {
+    let (_, records, looked) = run(Q, &halves(&[(130, 88), (103, 80)]), 2000);
+    assert_eq!((records.len(), looked.phase, looked.stand), (0, 2, [true, false, false]));
+    let x = image(&[(130, 88), (2, 80)]);
+    assert_eq!((x.change[0], x.change[3], x.events[0]), (130, 130, 1));
+}
+
+/// A swell first stands at value 132.
+#[test]
+fn the_fourth_number_stays() {
+    let x = image(&[(130, 88), (2, 100), (2, 120)]);
+    assert_eq!((x.change, x.events[2]), ([130, 140_800, 0, 130], 132));
+    // Where none stood at k − 1, it is that value.
+    let x = image(&[(130, 92), (2, 100), (2, 120)]);
+    assert_eq!((x.change, x.events[2]), ([130, 147_200, 0, 132], 132));
+}
+
+/// An image of the edition before goes on with its 0.
+#[test]
+fn an_image_of_the_edition_before() {
+    let x = image(&[(130, 88), (2, 100)]).but(|x| x.change[3] = 0);
+    let (after, records) = go_on(&x, &[(1, 100)]);
+    assert_eq!((after.change, records.len()), ([130, 140_800, 0, 0], 0));
+    let (_, records) = go_on(&x, &[(101, 100)]);
+    assert_eq!(records, [[4, 130, 1, 19_200, 19_200]]);
+    // A swell that first stands later is kept there, and drops it.
+    let (after, _) = go_on(&x, &[(2, 120)]);
+    assert_eq!((after.change[3], after.events[2]), (132, 132));
+    let (after, records) = go_on(&x, &[(2, 120), (103, 100)]);
+    assert_eq!((after.phase, records), (2, vec![[2, 132, 3, 1920, 0]]));
+    // A dip that goes on does not make it k.
+    let x = image(&[(130, 88), (2, 80)]).but(|x| x.change[3] = 0);
+    let (after, _) = go_on(&x, &[(1, 80)]);
+    assert_eq!((after.change, after.events[0]), ([130, 140_800, 0, 0], 1));
+    assert_eq!(go_on(&x, &[(101, 80)]).1, [[4, 130, 1, 12_800, 12_800]]);
+}
+
+/// From an accepted image with an event that its values do not show, that event stands: a dip or swell
+/// drops the change that begins next, and an interruption does not.
+#[test]
+fn events_of_an_accepted_image_before_a_change() {
+    let mut x = Fields::fresh(rules::settings(&bytes(Q)).unwrap());
+    (x.whole, x.last, x.v, x.phase) = (1, 80_000, 150, 2);
+    x.places[..100].fill(1600);
+    let change = [4, 151, 1, 11_200, 11_200];
+    assert_eq!(go_on(&x, &[(103, 93)]).1, [change]);
+    for e in 0..3 {
+        let mut x = x.clone();
+        (x.events[2 * e], x.events[2 * e + 1]) = (140, 50);
+        let event = [e as u32 + 1, 140, 11, 50, 0];
+        let (after, list) = go_on(&x, &[(2, 93)]);
+        assert_eq!(list, [event]);
+        assert_eq!(after.change, [151, 160_000, 0, if e < 2 { 151 } else { 0 }]);
+        let expected = if e < 2 { vec![event] } else { vec![event, change] };
+        assert_eq!(go_on(&x, &[(103, 93)]).1, expected);
+    }
+}
+
 fn program_samples() -> Vec<i16> {
     halves(&[(3, 100), (2, 50), (3, 100)])
 }
@@ -138,7 +273,7 @@ fn the_event_program() {
 fn the_end_of_v() {
     for host in hosts() {
         let advance = host.advance;
-        let mut x = outside::images::Fields::fresh(outside::rules::settings(&bytes(Q)).unwrap());
+        let mut x = Fields::fresh(rules::settings(&bytes(Q)).unwrap());
         x.whole = 1;
         x.v = u32::MAX - 1;
         x.phase = 2;
@@ -148,7 +283,7 @@ fn the_end_of_v() {
         let (mut image, mut reply) = ([0; IMAGE], [0; 24]);
         assert_eq!(advance(&x.bytes(), &samples, &mut image, &mut [], &mut reply), 0);
         assert_eq!([reply[0], reply[8], reply[16]], [15, 0, 2]);
-        let y = outside::images::Fields::of(&image);
+        let y = Fields::of(&image);
         assert_eq!((y.v, y.count, y.sum), (u32::MAX, 7, 70_000));
         // One more sample cannot be taken; none is taken wholly.
         let old = image;

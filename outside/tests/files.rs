@@ -22,6 +22,9 @@ fn the_recording() {
     assert_eq!(program::by_logger(&input), text);
     has_lines(&text.printed, &["dip ", "swell ", "interruption ", "rvc "]);
     has_lines(&text.told, &["event_log: not ended: dip"]);
+    // The long dip hides the change that begins where it ends.
+    has_lines(&text.printed, &["dip 527 129 1408 0"]);
+    assert!(!text.printed.contains("rvc 656 "));
 }
 
 /// Everything that is counted stands in them: each call, refusal, why, phase, event and mark.
@@ -42,6 +45,9 @@ fn the_recording_of_three_phases() {
     assert_eq!(three::program::by_logger(&input), text);
     has_lines(&text.printed, &["dip ", "swell ", "interruption ", "rvc "]);
     has_lines(&text.told, &["event_log_three: not ended: dip"]);
+    // The long dip in b hides the change in a, and the one that begins where it ends.
+    has_lines(&text.printed, &["dip 494 229 352000 0"]);
+    assert!(!text.printed.contains("rvc 614 ") && !text.printed.contains("rvc 723 "));
 }
 
 #[test]

@@ -188,15 +188,54 @@ fn magnitudes_of_two_channels() {
 fn what_drops_a_change() {
     let a: Halves = &[(150, 100), (110, 88)];
     let c: Halves = &[(260, 100)];
-    // The own dip of a begins at value 151 and drops the change.
+    // The own dip of a begins at value 151 and drops the change, which begins at 150.
     assert_eq!(records(Q, [a, c, c]), [[0; 5]; 0]);
-    // Where b has been down from value 1 on, the joint dip first stood there, and drops nothing.
+    // Where b has been down from value 1 on, the joint dip stands at 149, and drops it.
     let b: Halves = &[(260, 85)];
-    assert_eq!(records(Q, [a, b, c]), [[4, 150, 1, 19_200, 19_200]]);
-    // A swell in another channel drops it, while the joint dip stands.
-    let c: Halves = &[(150, 100), (1, 130), (109, 100)];
-    let swell = [2, 150, 2, 1855, 0];
-    assert_eq!(records(Q, [a, b, c]), [swell]);
+    assert_eq!(records(Q, [a, b, c]), [[0; 5]; 0]);
+    // A swell in another channel drops a change of a that makes no dip.
+    let a: Halves = &[(150, 100), (110, 93)];
+    assert_eq!(records(Q, [a, c, c]), [[4, 150, 1, 11_200, 11_200]]);
+    let b: Halves = &[(150, 100), (1, 130), (109, 100)];
+    assert_eq!(records(Q, [a, b, c]), [[2, 150, 2, 1855, 0]]);
+}
+
+/// A change in a from value 124 to value 225, and what b and c do before it.
+#[test]
+fn joint_events_before_a_change() {
+    let a: Halves = &[(124, 100), (103, 93)];
+    let c: Halves = &[(227, 100)];
+    let change = [4, 124, 1, 11_200, 11_200];
+    assert_eq!(records(Q, [a, c, c]), [change]);
+    // A dip in b that ended at 123 drops nothing; one that ends at 124, and one that goes on, do.
+    let b: Halves = &[(120, 91), (2, 89), (105, 92)];
+    assert_eq!(records(Q, [a, b, c]), [[1, 121, 2, 1424, 0], change]);
+    let b: Halves = &[(121, 91), (2, 89), (104, 92)];
+    assert_eq!(records(Q, [a, b, c]), [[1, 122, 2, 1424, 0]]);
+    let b: Halves = &[(122, 91), (2, 89), (103, 91)];
+    assert_eq!(records(Q, [a, b, c]), [[0; 5]; 0]);
+    // The same for a swell; W is 1760 and W − G is 1728.
+    let b: Halves = &[(120, 109), (2, 111), (105, 108)];
+    assert_eq!(records(Q, [a, b, c]), [[2, 121, 2, 1776, 0], change]);
+    let b: Halves = &[(121, 109), (2, 111), (104, 108)];
+    assert_eq!(records(Q, [a, b, c]), [[2, 122, 2, 1776, 0]]);
+}
+
+/// No channel's own dip or swell stands at k − 1: b, between the limits, holds the joint one, which c
+/// began. Without c nothing stands.
+#[test]
+fn a_joint_event_before_a_change_that_is_no_channels_own() {
+    let a: Halves = &[(124, 100), (103, 93)];
+    for (between, beyond, stand) in
+        [(91, 80, [true, false, false]), (109, 120, [false, true, false])]
+    {
+        let b: Halves = &[(227, between)];
+        let c: Halves = &[(5, 100), (2, beyond), (220, 100)];
+        let (_, list, looked) = feed(Q, &triples([a, b, c]), 2000);
+        assert_eq!((list.len(), looked.phase, looked.stand), (0, 2, stand));
+        let c: Halves = &[(227, 100)];
+        assert_eq!(records(Q, [a, b, c]), [[4, 124, 1, 11_200, 11_200]]);
+    }
 }
 
 /// With I = D and G = 0: a dip, an interruption and a change that end with one value.
@@ -204,12 +243,13 @@ fn what_drops_a_change() {
 fn three_records_at_one_value() {
     let mut s = Q;
     (s[5], s[6], s[8]) = (9000, 9000, 0);
-    // The change begins at 151; value 252, of 89 and 91 counts, is 1440, and the first not below D.
-    let each: Halves = &[(150, 89), (2, 85), (100, 89), (3, 91)];
+    // The change begins at 151. Value 250 is the first below D, after m − N; value 252, of 89 and 91
+    // counts, is 1440, and the first not below it.
+    let each: Halves = &[(150, 90), (2, 94), (98, 90), (2, 89), (3, 91)];
     let all = triples([each; 3]);
     let (fed, list, looked) = feed(s, &all, 60);
     assert_eq!(fed, Fed { taken: all.len() as u64, written: 3, why: 0 });
-    let expected = [[1, 1, 251, 1360, 0], [3, 1, 251, 1360, 0], [4, 151, 1, 6368, 48]];
+    let expected = [[1, 250, 2, 1424, 0], [3, 250, 2, 1424, 0], [4, 151, 1, 6368, 56]];
     assert_eq!(list, expected);
     assert_eq!((looked.phase, looked.stand), (2, [false; 3]));
     for room in [0, 20, 40, 59] {

@@ -1,10 +1,10 @@
 -- One value's step of all that is kept of the values: standings first, then the window and the phase. And what a history and its marks leave.
 use mathlib.Core.Path.{_≡_}
-use mathlib.Core.Bool.{Bool, _||_}
+use mathlib.Core.Bool.{_||_}
 use mathlib.Core.List.{List}
 use Prim.Native.Nat.{ℕ, suc, _≤_, _<_}
 use lib.ListN.{length}
-use Rattle.numbers.specs.Notation.{_≡ᵇ_, flag}
+use Rattle.numbers.specs.Notation.{_<ᵇ_, _≡ᵇ_, flag}
 use Rattle.settings.specs.declared.Settings.{Settings}
 use Rattle.settings.specs.declared.Scaled.{Scaled}
 use Rattle.settings.specs.Settings.{windowLength, scaledOf, ValidSettings}
@@ -23,6 +23,7 @@ use Rattle.window.specs.Window.{pushed, ValidWindow}
 use Rattle.records.specs.declared.Due.{Due}
 use Rattle.records.specs.Due.{recordsOf}
 use Rattle.rvc.specs.declared.Phase.the-variants.{Filling}
+use Rattle.rvc.specs.declared.Stands.{Stands}
 use Rattle.rvc.specs.Phase.{joiningOf, movedAfter, phaseOf, ValidPhase}
 use Rattle.detection.specs.declared.Detector.{Detector}
 use Rattle.detection.specs.declared.Joined.{Joined}
@@ -35,9 +36,9 @@ noValue = record { count = 0; dip = noEvent; swell = noEvent; interruption = noE
 abbrev pub stepOf : Settings → Kind → ℕ → Marked → Standing → Standing
 stepOf s k i x p = stepped k i (x .value) (x .clipped) (begins s k (x .value)) (ends s k (x .value)) p
 
--- whether a dip or a swell, as they stand after value i, first stands there
-abbrev pub standsAt : ℕ → Standing → Standing → Bool
-standsAt i dip swell = dip .start ≡ᵇ i || swell .start ≡ᵇ i
+-- the dips and swells at value i, from those that stand before it and those that stand after it
+abbrev pub standsAt : ℕ → Standing → Standing → Standing → Standing → Stands
+standsAt i dipBefore swellBefore dip swell = record { first = dip .start ≡ᵇ i || swell .start ≡ᵇ i; before = 0 <ᵇ dipBefore .start || 0 <ᵇ swellBefore .start }
 
 -- value x, with the window w and its marks before it: the detector after it, and the records due at it, by kind
 unfoldable pub detectorAfter : Settings → Marked → Detector → List ℕ → List ℕ → Detector
@@ -50,7 +51,7 @@ detectorAfter s x d w ms =
       dip = dip;
       swell = swell;
       interruption = stepOf s Interruption i x (d .interruption);
-      phase = movedAfter s (d .count) w ms (x .value) (standsAt i dip swell) (d .phase) .phase;
+      phase = movedAfter s (d .count) w ms (x .value) (standsAt i (d .dip) (d .swell) dip swell) (d .phase) .phase;
     }
 
 unfoldable pub dueBy : Settings → Marked → Detector → List ℕ → List ℕ → Due
@@ -62,7 +63,7 @@ dueBy s x d w ms =
       dip = endedAt (kindNumber Dip) i (d .dip) dip;
       swell = endedAt (kindNumber Swell) i (d .swell) swell;
       interruption = endedAt (kindNumber Interruption) i (d .interruption) (stepOf s Interruption i x (d .interruption));
-      change = movedAfter s (d .count) w ms (x .value) (standsAt i dip swell) (d .phase) .ended;
+      change = movedAfter s (d .count) w ms (x .value) (standsAt i (d .dip) (d .swell) dip swell) (d .phase) .ended;
     }
 
 unfoldable pub dueAt : Settings → Marked → Detector → List ℕ → List ℕ → List Record
@@ -72,7 +73,7 @@ dueAt s x d w ms = recordsOf (dueBy s x d w ms)
 abbrev pub sumsOf : List ℕ → List ℕ → Sums
 sumsOf w ms = record { values = sum w; marks = sum ms }
 
-abbrev pub joinedOf : ℕ → ℕ → List ℕ → List ℕ → Marked → Bool → Joined
+abbrev pub joinedOf : ℕ → ℕ → List ℕ → List ℕ → Marked → Stands → Joined
 joinedOf n v w ms x stands =
     record { joining = joiningOf n v w ms (x .value) stands; sums = sumsOf (pushed n v w (x .value)) (pushed n v ms (flag (x .clipped))) }
 

@@ -18,6 +18,7 @@ use Rattle.threshold.specs.Standing.{beginsAt, endsAt, stepped, endedAt}
 use Rattle.window.specs.declared.Sums.{Sums}
 use Rattle.window.specs.Window.{pushed, staying, leaving, ValidWindow}
 use Rattle.window.specs.WindowValid.{pushed-valid, sum-le, sum-all, sum-pushed}
+use Rattle.rvc.specs.declared.Stands.{Stands}
 use Rattle.rvc.specs.declared.Joining.{Joining}
 use Rattle.rvc.specs.declared.Moved.{Moved}
 use Rattle.rvc.specs.declared.Phase.{Phase}
@@ -68,7 +69,7 @@ module _ {n v : ℕ} {w ms : List ℕ} {a : Sums} {y : Marked} (some : 0 < n) (m
   pub mark-within : {m : ℕ} → m ≡ leaving n v ms → m ≤ a .marks
   mark-within m-is = row-leaves v 0 ms (ready .marks-valid) some most marks-are m-is
 
-  pub joined-is : (stands : Bool) {x m i f : ℕ} → x ≡ leaving n v w → m ≡ leaving n v ms → i ≡ suc v → f ≡ flag (y .clipped) →
+  pub joined-is : (stands : Stands) {x m i f : ℕ} → x ≡ leaving n v w → m ≡ leaving n v ms → i ≡ suc v → f ≡ flag (y .clipped) →
       _≡_ {A = Joined} (record {
         joining = record { number = i; value = y .value; leaving = x; mark = m; before = a .values; after = a .values - x + y .value; stands = stands };
         sums = record { values = a .values - x + y .value; marks = a .marks - m + f };
@@ -91,7 +92,7 @@ part-is first n v w e = let m : first + (n - 1) - first ≡ n - 1 = omega arith 
 
 -- one channel, whose window a value joins as j: a signal's test there, and a phase under any truth and under its own signal
 module _ {s : Settings} {t : Scaled} {v : ℕ} {w ms : List ℕ} {a : Sums} {y : Marked} (settings-valid : ValidSettings s) (scaled-is : t ≡ scaledOf s)
-    (ready : WindowReady (windowLength s) v w ms a y) {stands : Bool} {n : ℕ} (n-is : n ≡ windowLength s) {j : Joining} (j-is : j ≡ joiningOf n v w ms (y .value) stands) where
+    (ready : WindowReady (windowLength s) v w ms a y) {stands : Stands} {n : ℕ} (n-is : n ≡ windowLength s) {j : Joining} (j-is : j ≡ joiningOf n v w ms (y .value) stands) where
   joining-is : j ≡ joiningOf (windowLength s) v w ms (y .value) stands
   joining-is = j-is ∙ ap (λ (k : ℕ). joiningOf k v w ms (y .value) stands) n-is
 
@@ -115,16 +116,16 @@ module _ {s : Settings} {t : Scaled} {d : Detector} {w ms : List ℕ} {a : Sums}
   pub window-ready-at : WindowReady n (d .count) w ms a y
   window-ready-at = rw n-is (ready .window-ready)
 
-  pub phase-joins : {stands : Bool} {joined : Joined} → joined ≡ joinedOf n (d .count) w ms y stands → Joins t n (joined .joining) (d .phase)
+  pub phase-joins : {stands : Stands} {joined : Joined} → joined ≡ joinedOf n (d .count) w ms y stands → Joins t n (joined .joining) (d .phase)
   phase-joins e = joins-ready (ready .settings-valid) (ready .scaled-is) (ready .window-ready) n-is (ap (λ (k : Joined). k .joining) e) (d .phase)
 
-  pub tried-is : {i : ℕ} {stands : Bool} {dip swell interruption : Standing} {joined : Joined} {moved : Moved} {e₁ e₂ e₃ : Ended} →
+  pub tried-is : {i : ℕ} {stands : Stands} {dip swell interruption : Standing} {joined : Joined} {moved : Moved} {e₁ e₂ e₃ : Ended} →
       i ≡ suc (d .count) →
       dip ≡ stepped Dip i (y .value) (y .clipped) (beginsAt Dip (t .dip) (y .value)) (endsAt Dip (t .dip) (y .value)) (d .dip) →
       swell ≡ stepped Swell i (y .value) (y .clipped) (beginsAt Swell (t .swell) (y .value)) (endsAt Swell (t .swell) (y .value)) (d .swell) →
       interruption
       ≡ stepped Interruption i (y .value) (y .clipped) (beginsAt Interruption (t .interruption) (y .value)) (endsAt Interruption (t .interruption) (y .value)) (d .interruption) →
-      stands ≡ standsAt i dip swell →
+      stands ≡ standsAt i (d .dip) (d .swell) dip swell →
       joined ≡ joinedOf n (d .count) w ms y stands →
       moved ≡ movedOn t n (staying n (d .count) w) (joined .joining) (d .phase) →
       e₁ ≡ endedAt 1 i (d .dip) dip → e₂ ≡ endedAt 2 i (d .swell) swell → e₃ ≡ endedAt 3 i (d .interruption) interruption →
@@ -146,7 +147,7 @@ module _ {s : Settings} {t : Scaled} {d : Detector} {w ms : List ℕ} {a : Sums}
       let M =
       moved-is
       ∙ (moved-on (ready .settings-valid) p (ready .window-ready) n-is (ap (λ (k : Joined). k .joining) joined-is) (d .phase) (ready .detector-valid .phase-valid)
-      ∙ (λ j. movedAfter s v w ms r ((stands-is ∙ (λ k. standsAt (i-is k) (D k) (W k))) j) (d .phase))) in
+      ∙ (λ j. movedAfter s v w ms r ((stands-is ∙ (λ k. standsAt (i-is k) (d .dip) (d .swell) (D k) (W k))) j) (d .phase))) in
       let S : joined .sums ≡ joinedOf (windowLength s) v w ms y stands .sums = ap (λ (k : Joined). k .sums) joined-is ∙ (λ j. joinedOf (n-is j) v w ms y stands .sums) in
       let E₁ = ended₁ ∙ (λ j. endedAt 1 (i-is j) (d .dip) (D j)) in
       let E₂ = ended₂ ∙ (λ j. endedAt 2 (i-is j) (d .swell) (W j)) in

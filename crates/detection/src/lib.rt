@@ -6,6 +6,7 @@ use rms::Marked;
 use rvc::Joining;
 use rvc::Moved;
 use rvc::Phase;
+use rvc::Stands;
 use settings::Scaled;
 use settings::Settings;
 use settings::Threshold;
@@ -59,11 +60,20 @@ fn standing_after(before: Standing, kind: Kind, level: Threshold, i: u64, value:
     )
 }
 
-// Whether a dip or a swell first stands at value i.
-pub fn stands_at(i: u64, dip: Standing, swell: Standing) -> bool
-    ensures { λ b. ⌜ b ≡ standsAt i dip swell ⌝ }
+// The dips and swells at value i, from those before it and those after it.
+pub fn stands_at(
+    i: u64,
+    dip_before: Standing,
+    swell_before: Standing,
+    dip: Standing,
+    swell: Standing,
+) -> Stands
+    ensures { λ r. ⌜ r ≡ standsAt i «dip_before» «swell_before» dip swell ⌝ }
 {
-    (dip.start == i) | (swell.start == i)
+    Stands {
+        first: (dip.start == i) | (swell.start == i),
+        before: (0 < dip_before.start) | (0 < swell_before.start),
+    }
 }
 
 // Where the values begin that stay in the window when one more comes after `count` of them.
@@ -103,7 +113,7 @@ pub fn join_window(
     marks: &[u8],
     sums: Sums,
     value: Marked,
-    stands: bool,
+    stands: Stands,
 ) -> Joined
     requires { ⌜ (0 < «window_length») × («window_length» ≤ 120) × (count < lastValue) × WindowReady «window_length» count (now window) (now marks) sums value ⌝ }
     ensures { λ r. ⌜ r ≡ joinedOf «window_length» count (now (window .entry)) (now (marks .entry)) value stands ⌝ }
@@ -188,7 +198,7 @@ impl Detector {
             value,
         );
         let window_length = settings.window_length();
-        let stands = stands_at(i, dip, swell);
+        let stands = stands_at(i, self.dip, self.swell, dip, swell);
         let joined = join_window(
             window_length,
             self.count,

@@ -5,7 +5,7 @@ use mathlib.Core.Bool.{Bool, true, false, _&&_, _||_}
 use mathlib.Core.List.{List, map}
 use Prim.Native.Nat.{ℕ, suc, max, _≤_, _<_}
 use lib.ListN.{length}
-use Rattle.numbers.specs.Notation.{flag}
+use Rattle.numbers.specs.Notation.{if_then_else_, flag}
 use Rattle.settings.specs.declared.Settings.{Settings}
 use Rattle.settings.specs.declared.Scaled.{Scaled}
 use Rattle.settings.specs.declared.Threshold.{Threshold}
@@ -29,6 +29,7 @@ use Rattle.window.specs.Window.{pushed, windowOf, ValidWindow}
 use Rattle.rvc.specs.declared.Signal.{Signal}
 use Rattle.rvc.specs.declared.Signal.the-variants.{Filling as IsFilling, Unsettled as IsUnsettled, Steady as IsSteady, Changing as IsChanging}
 use Rattle.rvc.specs.declared.Phase.the-variants.{Filling}
+use Rattle.rvc.specs.declared.Stands.{Stands}
 use Rattle.rvc.specs.Signal.{steadyAfter, signalAfter, signalOf, ValidSignal}
 use Rattle.rvc.specs.Phase.{movedBy, phaseUnder, ValidPhase}
 use Rattle.records.specs.declared.Due.{Due}
@@ -37,7 +38,7 @@ use Rattle.detection.specs.Detection.{standsAt, joinedOf, WindowReady}
 use Rattle.three_reading.specs.Three.{Three, each, Channel, at, channel}
 use Rattle.three_reading.specs.Three.Channel.{onA, onB, onC}
 use Rattle.three_reading.specs.JointEvents.{beginsOf, endsOf, jointBegins, jointEnds, jointSince, worst}
-use Rattle.three_reading.specs.JointChanges.{signals, jointFirstStand}
+use Rattle.three_reading.specs.JointChanges.{signals, jointFirstStand, jointStoodBefore}
 use Rattle.joint.specs.declared.Values.{Values}
 use Rattle.joint.specs.declared.Own.{Own}
 use Rattle.joint.specs.declared.Joint.{Joint}
@@ -119,7 +120,7 @@ worseEnded (Over x) (Over y) = Over (worseRecord x y)
 abbrev pub ownSignal : Settings → ℕ → List ℕ → ℕ → Signal → Signal
 ownSignal s v w r p = signalAfter (windowLength s) (suc v) (steadyAfter s v w r p) p
 
-abbrev pub enteringOf : Settings → ℕ → List ℕ → List ℕ → Marked → Bool → Own → Entering
+abbrev pub enteringOf : Settings → ℕ → List ℕ → List ℕ → Marked → Stands → Own → Entering
 enteringOf s v w ms y stands o =
     let j = joinedOf (windowLength s) v w ms y stands in
     record { joining = j .joining; sums = j .sums; signal = ownSignal s v w (y .value) (o .signal) }
@@ -182,15 +183,15 @@ module _ (s : Settings) (x : Values) (j : Joint) (ws : Three (List ℕ)) (ms : L
         interruption = jointStepped s Interruption i x (j .interruption);
       }
 
-  -- what joins the windows, where a joint dip or swell first stands at it or not
-  abbrev pub enteringAt : Bool → Channel → Entering
+  -- what joins the windows, with the joint dips and swells at it
+  abbrev pub enteringAt : Stands → Channel → Entering
   enteringAt stands c = enteringOf s (j .count) (at c ws) ms (markedAt c x) stands (ownAt c j)
 
-  abbrev pub enteredOf : Bool → Entered
+  abbrev pub enteredOf : Stands → Entered
   enteredOf stands = record { a = enteringAt stands onA; b = enteringAt stands onB; c = enteringAt stands onC }
 
   abbrev pub allMovedOf : AllMoved
-  allMovedOf = allMovedBy (windowLength s) (enteredOf (standsAt (suc (j .count)) (standingsAfter .dip) (standingsAfter .swell))) j
+  allMovedOf = allMovedBy (windowLength s) (enteredOf (standsAt (suc (j .count)) (j .dip) (j .swell) (standingsAfter .dip) (standingsAfter .swell))) j
 
   unfoldable pub jointAfter : Joint
   jointAfter = afterFrom (suc (j .count)) standingsAfter allMovedOf
@@ -226,6 +227,10 @@ noOwn = record { signal = IsFilling; phase = Filling }
 abbrev pub noValues : Joint
 noValues = record { count = 0; dip = noEvent; swell = noEvent; interruption = noEvent; a = noOwn; b = noOwn; c = noOwn }
 
+-- what a change since k keeps of the joint dips and swells, as a change of one channel does
+abbrev pub jointStand : Settings → ℕ → List (Three ℕ) → ℕ
+jointStand s k hist = if jointStoodBefore s k hist then k else jointFirstStand s k hist
+
 -- what a history and its marks leave: of a joint event, of one channel, and of all
 abbrev pub jointStanding : Settings → Kind → List (Three ℕ) → List ℕ → Standing
 jointStanding s k hist ms =
@@ -235,7 +240,7 @@ jointStanding s k hist ms =
 abbrev pub ownOf : Settings → Channel → List (Three ℕ) → List ℕ → Own
 ownOf s c hist ms = record {
   signal = signalOf (signal s (channel c hist));
-  phase = phaseUnder s (channel c hist) ms (λ k. jointFirstStand s k hist) (signals s hist .joint);
+  phase = phaseUnder s (channel c hist) ms (λ k. jointStand s k hist) (signals s hist .joint);
 }
 
 abbrev pub jointOf : Settings → List (Three ℕ) → List ℕ → Joint

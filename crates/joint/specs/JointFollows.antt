@@ -1,8 +1,8 @@
 -- One value of each channel follows the history of three: stepped by it, what is kept is what the longer history leaves, and the records due are the reading's.
-use mathlib.Core.Path.{_≡_, refl, sym, _∙_, ap, ap₂}
+use mathlib.Core.Path.{_≡_, refl, sym, _∙_, ap, ap₂, subst}
 use mathlib.Core.Bool.{Bool, true, false, _&&_, _||_}
 use mathlib.Core.List.{List, [], _∷_, _++_, map, map-append}
-use Prim.Native.Nat.{ℕ, suc, _+_, _-_, _≤_, max}
+use Prim.Native.Nat.{ℕ, suc, _+_, _-_, _≤_, _<_, max}
 use native.Mathlib.Omega.{arith}
 use lib.ListN.{length, length-map, drop}
 use Rattle.numbers.specs.Notation.{_≤ᵇ_, _<ᵇ_, _≡ᵇ_, if_then_else_, flag}
@@ -24,7 +24,8 @@ use Rattle.threshold.specs.StandingFollows.{since-follows, since-ended}
 use Rattle.window.specs.Window.{windowOf}
 use Rattle.rvc.specs.Signal.{signalOf, turned, ValidSignal}
 use Rattle.rvc.specs.SignalFollows.{signal-follows}
-use Rattle.rvc.specs.StandLaws.{stand-begins, stand-grows, stand-settled}
+use Rattle.rvc.specs.declared.Stands.{Stands}
+use Rattle.rvc.specs.StandLaws.{kept-begins, kept-grows, kept-settled}
 use Rattle.rvc.specs.Phase.{movedBy, joiningOf, phaseUnder, changeUpTo, dropped, changeEnded, endedUnder}
 use Rattle.rvc.specs.ChangeFollows.{settled-mark}
 use Rattle.rvc.specs.PhaseFollows.{phase-under, ended-under}
@@ -33,7 +34,7 @@ use Rattle.detection.specs.Detection.{standsAt}
 use Rattle.three_reading.specs.Three.{Three, each, Channel, at, channel, channels}
 use Rattle.three_reading.specs.Three.Channel.{onA, onB, onC}
 use Rattle.three_reading.specs.JointEvents.{jointBegins, jointEnds, jointSince, worst, jointThresholdDue}
-use Rattle.three_reading.specs.JointChanges.{isTrue, jointNext, signals, jointFirstStand, greatestOf, jointChangeEvent, jointChangeOver, jointChangeDue}
+use Rattle.three_reading.specs.JointChanges.{isTrue, jointNext, signals, jointFirstStand, jointDipOrSwell, jointStoodBefore, greatestOf, jointChangeEvent, jointChangeOver, jointChangeDue}
 use Rattle.three_reading.specs.JointRecords.{jointDue}
 use Rattle.three_laws.specs.ChannelLaws.{length-channel}
 use Rattle.three_laws.specs.SignalsLaws.{own-signal, allTrue, joint-valid, change-lasts}
@@ -45,7 +46,7 @@ use Rattle.joint.specs.declared.Entering.{Entering}
 use Rattle.joint.specs.declared.Entered.{Entered}
 use Rattle.joint.specs.declared.OwnMoved.{OwnMoved}
 use Rattle.joint.specs.Joint.{trueIn, worseEnded, enteringOf, ownMovedBy, enteredTrue, enteredOf, allMovedBy, afterFrom, dueFrom, jointStepped, jointAfter, jointDueBy, jointDueAt}
-use Rattle.joint.specs.Joint.{jointStanding, ownOf, jointOf, windowsOf}
+use Rattle.joint.specs.Joint.{jointStanding, jointStand, ownOf, jointOf, windowsOf}
 
 -- a signal's truth, what the reading says of it, and how the joint one turns, in the code's terms
 true-is : (p : Signal) → trueIn (signalOf p) ≡ isTrue p
@@ -72,9 +73,13 @@ abbrev standsNow : Settings → List (Three ℕ) → Bool
 standsNow s hist = jointSince s Dip hist ≡ᵇ length hist || jointSince s Swell hist ≡ᵇ length hist
 
 -- the change that ends with the newest value, as each channel has it, is the reading's
-module _ (s : Settings) (hist : List (Three ℕ)) (ms : List ℕ) (beside : length ms ≡ length hist) (k : ℕ) (late : k + windowLength s ≤ length hist) where
+module _ (s : Settings) (hist : List (Three ℕ)) (ms : List ℕ) (beside : length ms ≡ length hist) (k : ℕ) (some : 0 < k) (late : k + windowLength s ≤ length hist) where
   abbrev stand : ℕ
-  stand = jointFirstStand s k hist
+  stand = jointStand s k hist
+
+  -- the reading drops it
+  abbrev drops : Bool
+  drops = jointStoodBefore s k hist || 0 <ᵇ jointFirstStand s k (drop (windowLength s) hist)
 
   abbrev event : Event
   event = record {
@@ -89,10 +94,10 @@ module _ (s : Settings) (hist : List (Three ℕ)) (ms : List ℕ) (beside : leng
   abbrev over : Channel → Bool → Ended
   over c b = if b then Nothing else Over (record { event = changeUpTo s (channel c hist) k; clipped = clippedFrom s k ms })
 
-  dropped-is : (c : Channel) → dropped s (channel c hist) stand ≡ (0 <ᵇ jointFirstStand s k (drop (windowLength s) hist))
+  dropped-is : (c : Channel) → dropped s (channel c hist) stand ≡ drops
   dropped-is c =
       ap (λ (v : ℕ). 0 <ᵇ stand && stand ≤ᵇ v - windowLength s) (length-channel c hist)
-      ∙ sym (stand-settled (standsNow s) (jointFirstStand s) (λ k. refl) (λ k r older. refl) k (windowLength s) hist)
+      ∙ sym (kept-settled (standsNow s) (jointFirstStand s) (λ k. refl) (λ k r older. refl) (jointDipOrSwell s) k (windowLength s) hist some late)
 
   same-three : (b : Bool) → (b || (b || b)) ≡ b
   same-three true = refl
@@ -116,7 +121,7 @@ module _ (s : Settings) (hist : List (Three ℕ)) (ms : List ℕ) (beside : leng
       listOf (worseEnded (ended onA) (worseEnded (ended onB) (ended onC))) ≡ map (recordOf ms) (jointChangeEvent s k hist)
   change-listed =
       (λ j. listOf (worseEnded (over onA (dropped-is onA j)) (worseEnded (over onB (dropped-is onB j)) (over onC (dropped-is onC j)))))
-      ∙ listed (0 <ᵇ jointFirstStand s k (drop (windowLength s) hist))
+      ∙ listed drops
 
 -- values r, one of them clipped or none, after older ones, each with its mark
 module _ (s : Settings) (r : Three ℕ) (older : List (Three ℕ)) (clipped : Bool) (ms : List ℕ) (beside : length ms ≡ length older) where
@@ -169,11 +174,11 @@ module _ (s : Settings) (r : Three ℕ) (older : List (Three ℕ)) (clipped : Bo
         ∙ since-ended k (worst k r) ws clipped ms beside-worst a z stood-le
         ∙ ap (λ (v : ℕ). map (recordOf now) (if 0 <ᵇ a && z ≡ᵇ 0 then event v ∷ [] else [])) (sym long)
 
-  abbrev stands : Bool
-  stands = standsNow s hist
+  abbrev stands : Stands
+  stands = record { first = standsNow s hist; before = jointDipOrSwell s older }
 
-  stands-is : standsAt i (jointStepped s Dip i x (before .dip)) (jointStepped s Swell i x (before .swell)) ≡ stands
-  stands-is = λ j. standsAt i (steps Dip j) (steps Swell j)
+  stands-is : standsAt i (before .dip) (before .swell) (jointStepped s Dip i x (before .dip)) (jointStepped s Swell i x (before .swell)) ≡ stands
+  stands-is = λ j. standsAt i (before .dip) (before .swell) (steps Dip j) (steps Swell j)
 
   -- one channel's own signal
   abbrev entering : Channel → Entering
@@ -203,7 +208,7 @@ module _ (s : Settings) (r : Three ℕ) (older : List (Three ℕ)) (clipped : Bo
 
   -- one channel's phase under the joint signal
   abbrev from : List (Three ℕ) → ℕ → ℕ
-  from hist k = jointFirstStand s k hist
+  from hist k = jointStand s k hist
 
   module _ (c : Channel) where
     abbrev own : List ℕ
@@ -215,11 +220,11 @@ module _ (s : Settings) (r : Three ℕ) (older : List (Three ℕ)) (clipped : Bo
     beside-own : length ms ≡ length own
     beside-own = beside ∙ sym same
 
-    begun : from hist (suc (length own)) ≡ (if stands then suc (length own) else 0)
-    begun = rw same (stand-begins (standsNow s) (jointFirstStand s) (λ k. refl) (λ k r older. refl) r older)
+    begun : from hist (suc (length own)) ≡ (if stands .first || stands .before then suc (length own) else 0)
+    begun = rw same (kept-begins (standsNow s) (jointFirstStand s) (λ k. refl) (λ k r older. refl) (jointDipOrSwell s) r older)
 
-    grows : (k : ℕ) → k ≤ length own → from hist k ≡ (if 0 <ᵇ from older k then from older k else if stands then suc (length own) else 0)
-    grows k h = rw same (stand-grows (standsNow s) (jointFirstStand s) (λ k. refl) (λ k r older. refl) k r older (omega (arith, same)))
+    grows : (k : ℕ) → 0 < k → k ≤ length own → from hist k ≡ (if 0 <ᵇ from older k then from older k else if stands .first then suc (length own) else 0)
+    grows k some h = rw same (kept-grows (standsNow s) (jointFirstStand s) (λ k. refl) (λ k r older. refl) (jointDipOrSwell s) k r older some (omega (arith, same)))
 
     valid : ValidSignal n (length own) (signalOf was)
     valid = rw same (valid-is n (length older) was (joint-valid s older))
@@ -255,7 +260,10 @@ module _ (s : Settings) (r : Three ℕ) (older : List (Three ℕ)) (clipped : Bo
   change-over unsettled false e f = refl
   change-over steady true e f = refl
   change-over steady false e f = refl
-  change-over (changing k) true e f = let late = change-lasts s r older k e f in change-listed s hist now (omega arith) k (omega (arith, late))
+  change-over (changing k) true e f =
+      let seen = subst (joint.ValidSignal n (length older)) e (joint-valid s older) in
+      let late = change-lasts s r older k e f in
+      change-listed s hist now (omega arith) k (omega (arith, seen .0)) (omega (arith, late))
   change-over (changing k) false e f = refl
 
   change-due : worst-ended (λ c. gone c (enteredTrue entered) .ended) ≡ map (recordOf now) (jointChangeDue s hist)
@@ -266,7 +274,7 @@ module _ (s : Settings) (r : Three ℕ) (older : List (Three ℕ)) (clipped : Bo
       ∙ ap (λ (p : Signal). map (recordOf now) (jointChangeOver s hist was p)) (sym (joint-is b (sym all-is)))
 
   -- the whole step
-  abbrev enteredBy : Bool → Entered
+  abbrev enteredBy : Stands → Entered
   enteredBy stands = enteredOf s x before (windowsOf n older) (windowOf n ms) stands
 
   pub joint-follows : jointAfter s x (jointOf s older ms) (windowsOf (windowLength s) older) (windowOf (windowLength s) ms) ≡ jointOf s (r ∷ older) (flag clipped ∷ ms)

@@ -16,6 +16,7 @@ use Rattle.threshold.specs.Standing.{worse}
 use Rattle.window.specs.declared.Sums.{Sums}
 use Rattle.window.specs.WindowValid.{leaving-le}
 use Rattle.rvc.specs.declared.Signal.{Signal}
+use Rattle.rvc.specs.declared.Stands.{Stands}
 use Rattle.rvc.specs.Signal.{steadyBy, signalAfter, TestReady}
 use Rattle.rvc.specs.Phase.{joiningOf}
 use Rattle.records.specs.declared.Due.{Due}
@@ -51,7 +52,7 @@ module _ {s : Settings} {t : Scaled} {v : ℕ} {w ms : List ℕ} {a : Sums} {y :
   pub enters-window : WindowReady n v w ms a y
   enters-window = rw n-is (ready .window-ready)
 
-  module _ {stands : Bool} {joined : Joined} (joined-is : joined ≡ joinedOf n v w ms y stands) where
+  module _ {stands : Stands} {joined : Joined} (joined-is : joined ≡ joinedOf n v w ms y stands) where
     joining-is : joined .joining ≡ joiningOf n v w ms (y .value) stands
     joining-is = ap (λ (k : Joined). k .joining) joined-is
 
@@ -100,27 +101,27 @@ module _ {s : Settings} {t : Scaled} {j : Joint} {ws : Three (List ℕ)} {ms : L
     count-lt = ready .count-lt;
   }
 
-  pub entered-is : (stands : Bool) (c : Channel) {y : Marked} {e : Entering} →
+  pub entered-is : (stands : Stands) (c : Channel) {y : Marked} {e : Entering} →
       y ≡ markedAt c x → e ≡ enteringOf s (j .count) (at c ws) ms y stands (ownAt c j) → e ≡ enteringAt s x j ws ms stands c
   entered-is stands c y-is e-is = e-is ∙ (λ k. enteringOf s (j .count) (at c ws) ms (y-is k) stands (ownAt c j))
 
-  entered-at : (stands : Bool) (c : Channel) → enteredAt c (enteredOf s x j ws ms stands) ≡ enteringAt s x j ws ms stands c
+  entered-at : (stands : Stands) (c : Channel) → enteredAt c (enteredOf s x j ws ms stands) ≡ enteringAt s x j ws ms stands c
   entered-at stands onA = refl
   entered-at stands onB = refl
   entered-at stands onC = refl
 
-  pub entered-small : {stands : Bool} {e : Entered} → e ≡ enteredOf s x j ws ms stands → EnteredSmall e
+  pub entered-small : {stands : Stands} {e : Entered} → e ≡ enteredOf s x j ws ms stands → EnteredSmall e
   entered-small {stands} e-is c = rw (e-is, entered-at stands c) (leaving-le (windowLength s) (j .count) (at c ws) (ready .window-valid c))
 
   -- the whole step, from its parts
-  pub tried-is : {i n : ℕ} {stands : Bool} {p : Standings} {e : Entered} {w : AllMoved} {after : Joint} {due : Due} {sums : JointSums} →
-      i ≡ suc (j .count) → p ≡ standingsBy t i x j → stands ≡ standsAt i (p .dip) (p .swell) → e ≡ enteredOf s x j ws ms stands → n ≡ windowLength s →
+  pub tried-is : {i n : ℕ} {stands : Stands} {p : Standings} {e : Entered} {w : AllMoved} {after : Joint} {due : Due} {sums : JointSums} →
+      i ≡ suc (j .count) → p ≡ standingsBy t i x j → stands ≡ standsAt i (j .dip) (j .swell) (p .dip) (p .swell) → e ≡ enteredOf s x j ws ms stands → n ≡ windowLength s →
       w ≡ allMovedBy n e j → due ≡ dueFrom i p w j → after ≡ afterFrom i p w → sums ≡ sumsFrom e →
       _≡_ {A = JointTried} (record { after = after; due = due; sums = sums }) (jointTriedBy s x j ws ms)
   unfolding jointAfter jointDueBy
   tried-is i-is p-is stands-is e-is n-is w-is due-is after-is sums-is =
       let P : _ ≡ standingsAfter s x j ws ms = p-is ∙ (λ k. standingsBy (ready .scaled-is k) (i-is k) x j) in
-      let S = stands-is ∙ (λ k. standsAt (i-is k) (P k .dip) (P k .swell)) in
+      let S = stands-is ∙ (λ k. standsAt (i-is k) (j .dip) (j .swell) (P k .dip) (P k .swell)) in
       let E = e-is ∙ (λ k. enteredOf s x j ws ms (S k)) in
       let W : _ ≡ allMovedOf s x j ws ms = w-is ∙ (λ k. allMovedBy (n-is k) (E k) j) in
       let A = after-is ∙ (λ k. afterFrom (i-is k) (P k) (W k)) in

@@ -1,6 +1,6 @@
 -- What holds of what is kept of three channels is kept by the step, from every state of which it holds; and at most four records are due at one value.
 use mathlib.Core.Path.{_≡_, refl, sym}
-use mathlib.Core.Bool.{Bool, true, _&&_, true≢false}
+use mathlib.Core.Bool.{true, _&&_, true≢false}
 use mathlib.Core.List.{List}
 use Prim.Native.Nat.{ℕ, suc, _≤_}
 use native.Mathlib.Omega.{arith}
@@ -18,6 +18,7 @@ use Rattle.threshold.specs.Standing.{ValidStanding}
 use Rattle.threshold.specs.StandingValid.{noEvent-valid, stepped-valid}
 use Rattle.window.specs.Window.{pushed, ValidWindow}
 use Rattle.records.specs.DueLaws.{recordsOf-most}
+use Rattle.rvc.specs.declared.Stands.{Stands}
 use Rattle.rvc.specs.declared.Signal.{Signal}
 use Rattle.rvc.specs.declared.Signal.the-variants.{Filling as IsFilling, Unsettled as IsUnsettled, Steady as IsSteady, Changing as IsChanging}
 use Rattle.rvc.specs.declared.Phase.the-variants.{Filling}
@@ -73,8 +74,8 @@ module _ (s : Settings) (x : Values) (j : Joint) (ws : Three (List ℕ)) (ms : L
         let h = valid .signal-valid c in
         after-valid n v (steadyAfter s v (at c ws) (at c r) p) p (true-full n v p (calm s (limitIn s p) (pushed n v (at c ws) (at c r))) h) h
 
-    abbrev stands : Bool
-    stands = standsAt (suc v) (standingsAfter s x j ws ms .dip) (standingsAfter s x j ws ms .swell)
+    abbrev stands : Stands
+    stands = standsAt (suc v) (j .dip) (j .swell) (standingsAfter s x j ws ms .dip) (standingsAfter s x j ws ms .swell)
 
     abbrev entered : Entered
     entered = enteredOf s x j ws ms stands

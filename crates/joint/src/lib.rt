@@ -7,6 +7,7 @@ use rms::Marked;
 use rvc::Joining;
 use rvc::Phase;
 use rvc::Signal;
+use rvc::Stands;
 use settings::Scaled;
 use settings::Settings;
 use settings::Threshold;
@@ -252,7 +253,7 @@ fn worse_record(x: Record, y: Record) -> Record
     }
 }
 
-// Of a recording, all phases stand under one signal and see one first stand, and so end together or not at all.
+// Of a recording, all phases stand under one signal and keep one stand, and so end together or not at all.
 fn worse_ended(x: Ended, y: Ended) -> Ended
     ensures { λ r. ⌜ r ≡ worseEnded x y ⌝ }
 {
@@ -285,7 +286,7 @@ impl Own {
         marks: &[u8],
         sums: Sums,
         value: Marked,
-        stands: bool,
+        stands: Stands,
     ) -> Entering
         requires { ⌜ EnterReady settings scaled count (now window) (now marks) sums value self ⌝ }
         ensures { λ r. ⌜ r ≡ enteringOf settings count (now (window .entry)) (now (marks .entry)) value stands self ⌝ }
@@ -428,7 +429,7 @@ impl Joint {
         marks: &[u8],
         sums: JointSums,
         values: Values,
-        stands: bool,
+        stands: Stands,
     ) -> Entered
         requires { ⌜ JointReady settings scaled self (threeOf (now a) (now b) (now c)) (now marks) sums values ⌝ }
         ensures { λ r. ⌜ r ≡ enteredOf settings values self (threeOf (now (a .entry)) (now (b .entry)) (now (c .entry))) (now (marks .entry)) stands ⌝ }
@@ -531,7 +532,7 @@ impl Joint {
         let standings = self.standings(scaled, i, values);
         let dip = standings.dip;
         let swell = standings.swell;
-        let stands = detection::stands_at(i, dip, swell);
+        let stands = detection::stands_at(i, self.dip, self.swell, dip, swell);
         let entered = self.enter(settings, scaled, a, b, c, marks, sums, values, stands);
         let moved = self.go_on(settings.window_length(), entered);
         let due = self.due(i, standings, moved);

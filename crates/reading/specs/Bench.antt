@@ -1,4 +1,5 @@
--- 01, "Bench readings", the example of "The event program", and more readings of the same kind: marks, lengths, a whole image, and what restore refuses and accepts.
+-- 01, "Bench readings", the example of "The event program", and more readings of the same kind: what stands before a change, marks, lengths, a whole image, and what
+-- restore refuses and accepts.
 use mathlib.Core.Path.{_≡_}
 use mathlib.Core.Bool.{Bool, true, false}
 use mathlib.Core.List.{List, [], _∷_, _++_, map}
@@ -17,7 +18,7 @@ use Rattle.reading.specs.Layout.{settingsOffset, gathererOffset, valuesO
 use Rattle.reading.specs.Records.{events, recordBytes, recordsAt}
 use Rattle.reading.specs.Clipping.{marks}
 use Rattle.reading.specs.Changes.{signal}
-use Rattle.reading.specs.Image.{changeMark, imageOf}
+use Rattle.reading.specs.Image.{changeNumbers, changeMark, imageOf}
 use Rattle.reading.specs.Restore.{gathererIn, valuesIn, eventsIn, restoreRefusal}
 use Rattle.reading.specs.Feed.{records}
 use Rattle.reading.specs.Engineer.{readings, emptyDesk, answer}
@@ -67,6 +68,42 @@ change = repeated (150 * 8) 100 ++ repeated (103 * 8) 96
 -- 150 half-cycles of 100, then 51 of 94 and 52 of 98: at value 252 within T of the mean, but not within T − H
 abbrev pub restless : List ℤ
 restless = repeated (150 * 8) 100 ++ (repeated (51 * 8) 94 ++ repeated (52 * 8) 98)
+
+-- 130 half-cycles of 88, then h of 100; 120 of 91, two of 89 and 103 of 100
+abbrev pub longDip : ℕ → List ℤ
+longDip h = repeated (130 * 8) 88 ++ repeated (h * 8) 100
+
+abbrev pub briefDip : List ℤ
+briefDip = repeated (120 * 8) 91 ++ (repeated 16 89 ++ repeated (103 * 8) 100)
+
+-- n values of x counts; histories, the newest values first: 129 values of x, then n of y, which begin a change; 120 of 91, one of 89, one of x, and 102 of 100, which
+-- begin one
+abbrev pub valuesOf : ℕ → ℕ → List ℕ
+valuesOf n x = replicate n (16 * x)
+
+abbrev pub stepTo : ℕ → ℕ → ℕ → List ℕ
+stepTo n x y = valuesOf n y ++ valuesOf 129 x
+
+abbrev pub stepAfter : ℕ → List ℕ
+stepAfter x = valuesOf 102 100 ++ (valuesOf 1 x ++ (valuesOf 1 89 ++ valuesOf 120 91))
+
+-- the four numbers of a change in progress
+abbrev pub numbersAfter : List ℕ → List ℕ
+numbersAfter hist = changeNumbers q hist (signal q hist)
+
+-- Q with I above D, which start refuses: only so does an interruption stand without a dip
+abbrev pub qOutage : Settings
+qOutage = record {
+  samples = 8;
+  frequency = 50;
+  declared = 1600;
+  limit = 300;
+  reduction = 150;
+  interruption = 9500;
+  dip = 9000;
+  swell = 11000;
+  hysteresis = 200;
+}
 
 -- two half-cycles of x, then two of y
 abbrev pub pairThen : ℕ → ℕ → List ℤ
@@ -260,6 +297,30 @@ pub record BenchReadings : Type 0 where
   pub restless-without-H : recordsOf (qWith 8 300 0) restless ≡ record { kind = 4; start = 151; duration = 1; first = 9552; second = 6256 } ∷ []
   -- a voltage that was never steady is steady once it is calm under T
   pub unsettled-then-steady : readings q (values q unsettled) .phase ≡ 2
+  -- a dip that stands at k − 1 drops the change: 130 half-cycles of 88, then 103 of 100. So does one that stands at no other value
+  pub dip-before-change : recordsOf q (longDip 103) ≡ record { kind = 1; start = 1; duration = 129; first = 1408; second = 0 } ∷ []
+  pub dip-up-to-change : recordsOf q briefDip ≡ record { kind = 1; start = 121; duration = 1; first = 1424; second = 0 } ∷ []
+  -- so do a swell, a dip and a swell that go on, and a dip whose value k − 1 is between its two levels
+  pub swell-before-change : events q (stepTo 102 112 100) ≡ record { kind = 2; start = 1; duration = 129; first = 1792; second = 0 } ∷ []
+  pub dip-goes-on : events q (stepTo 102 88 84) ≡ []
+  pub swell-goes-on : events q (stepTo 102 112 116) ≡ []
+  pub dip-between-levels : events q (stepAfter 91) ≡ record { kind = 1; start = 121; duration = 2; first = 1424; second = 0 } ∷ []
+  -- a dip that ended at k − 1 drops nothing
+  pub dip-ended-before-change :
+      events q (stepAfter 92)
+      ≡ record { kind = 1; start = 121; duration = 1; first = 1424; second = 0 } ∷ record { kind = 4; start = 123; duration = 1; first = 14416; second = 14416 } ∷ []
+  -- nor does an interruption alone
+  pub outage-refused : settingsRefusal qOutage ≡ 6
+  pub interruption-before-change :
+      events qOutage (stepTo 102 93 100)
+      ≡ record { kind = 3; start = 1; duration = 129; first = 1488; second = 0 } ∷ record { kind = 4; start = 130; duration = 1; first = 11200; second = 11200 } ∷ []
+  -- after 130 half-cycles of 88 and two of 100 body 4 begins 3, 130, 140800, 0, 130; restore takes 0 in the place of the last, too, as the edition before has it
+  pub stand-kept : take 5 (eventsIn (imageOf q (longDip 2))) ≡ 3 ∷ 130 ∷ 140800 ∷ 0 ∷ 130 ∷ []
+  pub no-stand-accepted : restoreRefusal (sets (imageOf q (longDip 2)) 720 (bytesOf 4 0)) ≡ 0
+  -- the four numbers after a swell, and after a dip that goes on; where a swell first stands later, at 132; and where none stood
+  pub stands-kept :
+      numbersAfter (stepTo 2 112 100) ∷ numbersAfter (stepTo 2 88 84) ∷ numbersAfter (valuesOf 1 120 ++ stepTo 2 88 100) ∷ numbersAfter (stepTo 2 100 96) ∷ []
+      ≡ (130 ∷ 179200 ∷ 0 ∷ 130 ∷ []) ∷ (130 ∷ 140800 ∷ 0 ∷ 130 ∷ []) ∷ (130 ∷ 140800 ∷ 0 ∷ 130 ∷ []) ∷ (130 ∷ 160000 ∷ 0 ∷ 0 ∷ []) ∷ []
   -- the program's samples: dip 3, 3, 800, 0 and V 7, and the record's bytes; fed with no record room: 55 taken, why 1
   pub program-record : recordsOf q program ≡ record { kind = 1; start = 3; duration = 3; first = 800; second = 0 } ∷ []
   pub program-bytes : recordBytes (records q program) ≡ 1 ∷ 0 ∷ 0 ∷ 0 ∷ 3 ∷ 0 ∷ 0 ∷ 0 ∷ 3 ∷ 0 ∷ 0 ∷ 0 ∷ 32 ∷ 3 ∷ 0 ∷ 0 ∷ 0 ∷ 0 ∷ 0 ∷ 0 ∷ []

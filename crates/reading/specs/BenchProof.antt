@@ -4,12 +4,14 @@ use mathlib.Core.Bool.{true, false}
 use mathlib.Core.List.{[], _∷_, _++_}
 use Prim.Native.Nat.{_*_}
 use lib.ListN.{length, take, replicate}
+use lib.Seq.{sets}
+use Rattle.octets.specs.Bytes.{bytesOf}
 use Rattle.settings.specs.Settings.{startRefusal, settingsRefusal}
 use Rattle.reading.specs.Values.{root, values}
 use Rattle.reading.specs.Image.{imageOf}
-use Rattle.reading.specs.Restore.{restoreRefusal}
+use Rattle.reading.specs.Restore.{eventsIn, restoreRefusal}
 use Rattle.reading.specs.Engineer.{readings}
-use Rattle.reading.specs.Bench.{BenchReadings, q, qWith, repeated, change, restless, unsettled, recordsOf}
+use Rattle.reading.specs.Bench.{BenchReadings, q, qWith, repeated, change, restless, unsettled, recordsOf, longDip, briefDip, qOutage}
 use Rattle.reading.specs.Bench.{changing, changingImage, changed, refusals, settingsOut, settingsIn, bodiesOut, bodiesIn, marksOut, marksIn}
 use Rattle.reading.specs.Bench.{changeMarks, changeMarkAfter}
 
@@ -50,6 +52,22 @@ none-is-at-394 : recordsOf (qWith 8 394 150) change ≡ []
 unfolding root
 none-is-at-394 = refl
 
+dip-is-before-change : recordsOf q (longDip 103) ≡ record { kind = 1; start = 1; duration = 129; first = 1408; second = 0 } ∷ []
+unfolding root
+dip-is-before-change = refl
+
+dip-is-up-to-change : recordsOf q briefDip ≡ record { kind = 1; start = 121; duration = 1; first = 1424; second = 0 } ∷ []
+unfolding root
+dip-is-up-to-change = refl
+
+outage-is-refused : settingsRefusal qOutage ≡ 6
+unfolding settingsRefusal
+outage-is-refused = refl
+
+stand-is-kept : take 5 (eventsIn (imageOf q (longDip 2))) ≡ 3 ∷ 130 ∷ 140800 ∷ 0 ∷ 130 ∷ []
+unfolding root
+stand-is-kept = refl
+
 clipped-before-change-is : changeMarks 150 ≡ false ∷ []
 unfolding root
 clipped-before-change-is = refl
@@ -82,6 +100,10 @@ changing-image-is = refl
 changing-is-accepted : restoreRefusal changingImage ≡ 0
 unfolding restoreRefusal startRefusal settingsRefusal
 changing-is-accepted = refl
+
+no-stand-is-accepted : restoreRefusal (sets (imageOf q (longDip 2)) 720 (bytesOf 4 0)) ≡ 0
+unfolding root restoreRefusal startRefusal settingsRefusal
+no-stand-is-accepted = refl
 
 lengths-are-refused : refusals ([] ∷ take 763 changingImage ∷ (changingImage ++ (0 ∷ [])) ∷ []) ≡ 8 ∷ 8 ∷ 8 ∷ []
 unfolding restoreRefusal startRefusal settingsRefusal
@@ -149,6 +171,18 @@ bench-holds = record {
   restless-goes-on = restless-has-none;
   restless-without-H = restless-has-one;
   unsettled-then-steady = unsettled-is-steady;
+  dip-before-change = dip-is-before-change;
+  dip-up-to-change = dip-is-up-to-change;
+  swell-before-change = refl;
+  dip-goes-on = refl;
+  swell-goes-on = refl;
+  dip-between-levels = refl;
+  dip-ended-before-change = refl;
+  outage-refused = outage-is-refused;
+  interruption-before-change = refl;
+  stand-kept = stand-is-kept;
+  no-stand-accepted = no-stand-is-accepted;
+  stands-kept = refl;
   program-record = refl;
   program-bytes = refl;
   program-count = refl;

@@ -1,4 +1,4 @@
--- 01, "Rapid voltage changes".
+-- 01, "Rapid voltage changes", with 02's recovery from a long dip.
 use mathlib.Core.Bool.{Bool, _&&_, _||_}
 use mathlib.Core.List.{List, [], _∷_}
 use Prim.Native.Nat.{ℕ, suc, _+_, _-_, _*_, max}
@@ -63,6 +63,14 @@ firstStand s k (r ∷ older) =
     let here = k ≤ᵇ i && (standsSince s Dip (r ∷ older) ≡ᵇ i || standsSince s Swell (r ∷ older) ≡ᵇ i) in
     if 0 <ᵇ before then before else if here then i else 0
 
+-- whether a dip or a swell stands at the newest value
+abbrev pub dipOrSwell : Settings → List ℕ → Bool
+dipOrSwell s hist = 0 <ᵇ standsSince s Dip hist || 0 <ᵇ standsSince s Swell hist
+
+-- 02, N5: whether one stands at value k − 1
+abbrev pub stoodBefore : Settings → ℕ → List ℕ → Bool
+stoodBefore s k hist = dipOrSwell s (upTo (k - 1) hist)
+
 -- A(k − 1), the sum before a change
 abbrev pub sumBefore : Settings → ℕ → List ℕ → ℕ
 sumBefore s k hist = windowSum s (upTo (k - 1) hist)
@@ -76,12 +84,12 @@ farthest n a (r ∷ rs) = max (gap (n * r) a) (farthest n a rs)
 abbrev pub greatestDifference : Settings → ℕ → List ℕ → ℕ
 greatestDifference s k hist = let n = windowLength s in farthest n (sumBefore s k hist) (since k (upTo (length hist - n) hist))
 
--- the record of a change that runs from k to the newest value, 01's m; none if a dip or a swell first stands at k to m − N
+-- the record of a change that runs from k to the newest value, 01's m; none if a dip or a swell stands at k − 1, or first stands at k to m − N
 abbrev pub changeEvent : Settings → ℕ → List ℕ → List Event
 changeEvent s k hist =
     let last = length hist - windowLength s in
     let e : Event = record { kind = 4; start = k; duration = last - k; first = greatestDifference s k hist; second = gap (windowSum s hist) (sumBefore s k hist) } in
-    if 0 <ᵇ firstStand s k (upTo last hist) then [] else e ∷ []
+    if stoodBefore s k hist || 0 <ᵇ firstStand s k (upTo last hist) then [] else e ∷ []
 
 -- due at the newest value: the change in progress before it, where the signal is true again
 abbrev pub changeOver : Settings → List ℕ → Signal → Signal → List Event

@@ -1,4 +1,4 @@
--- 01, "The image" of a recording, with 02's marks.
+-- 01, "The image" of a recording, with 02's marks and its recovery from a long dip.
 use mathlib.Core.Bool.{Bool, false}
 use mathlib.Core.List.{List, [], _∷_, _++_, reverse}
 use Prim.Native.Nat.{ℕ, zero, suc, _-_, _%_}
@@ -13,7 +13,7 @@ use Rattle.reading.specs.declared.Kind.the-variants.{Dip, Swell, Interru
 use Rattle.reading.specs.Values.{squares, energy, halves, inProgress, values, since}
 use Rattle.reading.specs.Clipping.{anyClipped, halfClipped, marksOf, clippedSince, clippedFrom}
 use Rattle.reading.specs.Thresholds.{standsSince, magnitude}
-use Rattle.reading.specs.Changes.{Signal, signal, sumBefore, greatestDifference, firstStand}
+use Rattle.reading.specs.Changes.{Signal, signal, firstStand, stoodBefore, sumBefore, greatestDifference}
 use Rattle.reading.specs.Changes.Signal.{filling, unsettled, steady, changing}
 use Rattle.reading.specs.Layout.{entryWidths, places, gathererWidths, gathererLength, valuesWidths, valuesLength, eventsWidths, eventsLength}
 use Rattle.reading.specs.Layout.{settingsOffset, gathererOffset, valuesOffset, eventsOffset}
@@ -60,12 +60,16 @@ phaseNumber unsettled = 1
 phaseNumber steady = 2
 phaseNumber (changing k) = 3
 
--- of a change k, A(k − 1), the greatest difference, the first value at which a dip or swell first stands; 0 outside a change
+-- the fourth number of a change since k: the first value from k on at which a dip or swell first stands, 0 if there is none; k where one stands at k − 1 (02, N5)
+abbrev pub standNumber : Settings → ℕ → List ℕ → ℕ
+standNumber s k hist = if stoodBefore s k hist then k else firstStand s k hist
+
+-- of a change k, A(k − 1), the greatest difference and the fourth number; 0 outside a change
 abbrev pub changeNumbers : Settings → List ℕ → Signal → List ℕ
 changeNumbers s hist filling = 0 ∷ 0 ∷ 0 ∷ 0 ∷ []
 changeNumbers s hist unsettled = 0 ∷ 0 ∷ 0 ∷ 0 ∷ []
 changeNumbers s hist steady = 0 ∷ 0 ∷ 0 ∷ 0 ∷ []
-changeNumbers s hist (changing k) = k ∷ sumBefore s k hist ∷ greatestDifference s k hist ∷ firstStand s k hist ∷ []
+changeNumbers s hist (changing k) = k ∷ sumBefore s k hist ∷ greatestDifference s k hist ∷ standNumber s k hist ∷ []
 
 -- start and magnitude so far of an event, 0 and 0 where none stands
 abbrev pub standingNumbers : Settings → Kind → List ℕ → List ℕ

@@ -67,12 +67,12 @@ valuesRule n whole ns =
 abbrev pub earlyRule : ℕ → ℕ → ℕ → ℕ → Rule
 earlyRule n v k difference = v <ʳ k + n implies difference ≡ʳ 0
 
--- the first stand is 0, or else from k to V
+-- the fourth number is 0, or else from k to V
 abbrev pub standRule : ℕ → ℕ → ℕ → Rule
 standRule v k stand = 0 <ʳ stand implies (k ≤ʳ stand and stand ≤ʳ v)
 
--- a change, k, A(k − 1), greatest difference and first stand, and its mark: N < k ≤ V; the two in the middle at most N × 524,288; the difference 0 when V < k + N, and
--- so is the mark; the first stand 0, or else from k to V
+-- a change, k, A(k − 1), greatest difference and fourth number, and its mark: N < k ≤ V; the two in the middle at most N × 524,288; the difference 0 when V < k + N, and
+-- so is the mark; the fourth number 0, or else from k to V
 abbrev pub changeRule : ℕ → ℕ → List ℕ → ℕ → Rule
 changeRule n v ns mark =
     let k = getD ns 0 0 in

@@ -76,5 +76,5 @@ abbrev pub since : ℕ → List ℕ → List ℕ
 since a hist = take (suc (length hist) - a) hist
 
 -- a history as it stood after value i
-abbrev pub upTo : ℕ → List ℕ → List ℕ
+abbrev pub upTo : {X : Type 0} → ℕ → List X → List X
 upTo i hist = drop (length hist - i) hist

@@ -158,7 +158,7 @@ fn is_early(start: u64, window_length: u64, count: u64) -> bool
     count - start < window_length
 }
 
-// Whether the first stand is 0, or from k to V.
+// Whether the stand that is kept is 0, or from k to V.
 fn stand_good(start: u64, stand: u64, count: u64) -> bool
     ensures { λ r. ⌜ r ≡ passes (standRule count start stand) ⌝ }
 {

@@ -1,5 +1,5 @@
 -- What a change in progress carries follows the history, whatever signal it stands under: its sum stays, its greatest difference and its mark grow by the value
--- that leaves the window, its first stand as it is told. What begins with a value is the reading's change there, and what ends is the reading's event.
+-- that leaves the window, the stand that it keeps as it is told. What begins with a value is the reading's change there, and what ends is the reading's event.
 use mathlib.Core.Path.{_≡_, refl, sym, _∙_, ap}
 use mathlib.Core.Bool.{Bool, true, false, _||_}
 use mathlib.Core.List.{List, [], _∷_, map}
@@ -14,13 +14,15 @@ use Rattle.settings.specs.Settings.{windowLength}
 use Rattle.settings.specs.SettingsLaws.{windowLength-some, windowLength-most}
 use Rattle.reading.specs.Values.{since, upTo}
 use Rattle.reading.specs.Clipping.{anyMarked, clippedFrom, recordOf}
-use Rattle.reading.specs.Changes.{windowSum, gap, firstStand, sumBefore, farthest, greatestDifference, changeEvent}
+use Rattle.reading.specs.Changes.{windowSum, gap, firstStand, dipOrSwell, stoodBefore, sumBefore, farthest, greatestDifference, changeEvent}
+use Rattle.reading.specs.Image.{standNumber}
 use Rattle.threshold.specs.declared.Ended.the-variants.{Nothing, Over}
 use Rattle.threshold.specs.Standing.{listOf}
 use Rattle.window.specs.Window.{windowOf}
 use Rattle.window.specs.WindowLaws.{leaving-full}
 use Rattle.window.specs.WindowFollows.{window-follows, windowSum-windowOf, oldest-is}
-use Rattle.rvc.specs.StandLaws.{stand-settled}
+use Rattle.rvc.specs.declared.Stands.{Stands}
+use Rattle.rvc.specs.StandLaws.{kept-settled}
 use Rattle.rvc.specs.Phase.{changeFrom, grown, closing, joiningNewest, changeUnder, changeUpTo, dropped, changeEnded, standsFirst}
 
 -- the history before its n newest values, and its values from k on
@@ -105,7 +107,7 @@ module _ (s : Settings) (k r : ℕ) (older : List ℕ) (clipped : Bool) (ms : Li
       go true = refl
       go false = refl
 
-  pub change-grows : (stands : Bool) (f f′ : ℕ) → f′ ≡ (if 0 <ᵇ f then f else if stands then suc (length older) else 0) →
+  pub change-grows : (stands : Stands) (f f′ : ℕ) → f′ ≡ (if 0 <ᵇ f then f else if stands .first then suc (length older) else 0) →
       grown (windowLength s) (joiningNewest s r older ms stands) (changeUnder s older ms k f) ≡ changeUnder s (r ∷ older) (flag clipped ∷ ms) k f′
   change-grows stands f f′ stand-grows =
       rw (
@@ -123,7 +125,7 @@ module _ (s : Settings) (r : ℕ) (older : List ℕ) (clipped : Bool) (ms : List
       let e : suc (suc (length hist)) - (suc (length older) + n) ≡ 0 = omega (arith, windowLength-some s) in
       since-settled n (suc (length older)) (x ∷ hist) (omega arith) ∙ ap (λ (m : ℕ). take m (drop n (x ∷ hist))) e
 
-  pub change-begins : (stands : Bool) (f : ℕ) → f ≡ (if stands then suc (length older) else 0) →
+  pub change-begins : (stands : Stands) (f : ℕ) → f ≡ (if stands .first || stands .before then suc (length older) else 0) →
       changeFrom (joiningNewest s r older ms stands) ≡ changeUnder s (r ∷ older) (flag clipped ∷ ms) (suc (length older)) f
   change-begins stands f stand-is = λ j. record { start = i; sum = sum-is j; difference = difference-is j; stand = sym stand-is j; clipped = mark-is j }
     where
@@ -141,7 +143,7 @@ module _ (s : Settings) (r : ℕ) (older : List ℕ) (clipped : Bool) (ms : List
 
 -- a change ends with a value
 module _ (s : Settings) (r : ℕ) (older : List ℕ) (ms : List ℕ) where
-  pub change-ends : (now : List ℕ) (k : ℕ) (stands : Bool) (f : ℕ) → windowLength s ≤ suc (length older) →
+  pub change-ends : (now : List ℕ) (k : ℕ) (stands : Stands) (f : ℕ) → windowLength s ≤ suc (length older) →
       closing (windowLength s) (joiningNewest s r older ms stands) (changeUnder s (r ∷ older) now k f) ≡ changeEnded s (r ∷ older) now k f
   change-ends now k stands f full =
       rw (window-follows (windowLength s) r older (windowLength-some s) (windowLength-most s), windowSum-windowOf s (r ∷ older) full)
@@ -165,10 +167,10 @@ module _ (s : Settings) (hist ms : List ℕ) (beside : length ms ≡ length hist
       listed false = λ j. record { event = changeUpTo s hist k; clipped = settled-mark s k (length hist) ms beside full j } ∷ []
 
   -- of the reading's own change
-  pub event-listed : (k : ℕ) → k + windowLength s ≤ length hist → listOf (changeEnded s hist ms k (firstStand s k hist)) ≡ map (recordOf ms) (changeEvent s k hist)
-  event-listed k full = ended-listed k (firstStand s k hist) full ∙ ap (λ (b : Bool). map (recordOf ms) (if b then [] else changeUpTo s hist k ∷ [])) (sym dropped-is)
+  pub event-listed : (k : ℕ) → 0 < k → k + windowLength s ≤ length hist → listOf (changeEnded s hist ms k (standNumber s k hist)) ≡ map (recordOf ms) (changeEvent s k hist)
+  event-listed k some full = ended-listed k (standNumber s k hist) full ∙ ap (λ (b : Bool). map (recordOf ms) (if b then [] else changeUpTo s hist k ∷ [])) (sym dropped-is)
     where
-      dropped-is : (0 <ᵇ firstStand s k (upTo (length hist - windowLength s) hist)) ≡ dropped s hist (firstStand s k hist)
+      dropped-is : (stoodBefore s k hist || 0 <ᵇ firstStand s k (upTo (length hist - windowLength s) hist)) ≡ dropped s hist (standNumber s k hist)
       dropped-is =
-          ap (λ (l : List ℕ). 0 <ᵇ firstStand s k l) (upTo-settled (windowLength s) hist (omega arith))
-          ∙ stand-settled (standsFirst s) (firstStand s) (λ k. refl) (λ k r older. refl) k (windowLength s) hist
+          ap (λ (l : List ℕ). stoodBefore s k hist || 0 <ᵇ firstStand s k l) (upTo-settled (windowLength s) hist (omega arith))
+          ∙ kept-settled (standsFirst s) (firstStand s) (λ k. refl) (λ k r older. refl) (dipOrSwell s) k (windowLength s) hist some full

@@ -9,6 +9,7 @@ use Rattle.reading.specs.Changes.{Signal}
 use Rattle.reading.specs.Changes.Signal.{filling, unsettled, steady, changing}
 use Rattle.window.specs.Window.{staying, ValidWindow}
 use Rattle.window.specs.WindowValid.{leaving-le}
+use Rattle.rvc.specs.declared.Stands.{Stands}
 use Rattle.rvc.specs.declared.Joining.{Joining}
 use Rattle.rvc.specs.declared.Phase.{Phase}
 use Rattle.rvc.specs.declared.Phase.the-variants.{Filling, Unsettled, Steady, Changing}
@@ -34,7 +35,7 @@ signal-under s hist ms stand unsettled = refl
 signal-under s hist ms stand steady = refl
 signal-under s hist ms stand (changing k) = refl
 
-module _ (s : Settings) (v : ℕ) (w ms : List ℕ) (r : ℕ) (stands : Bool) (window : ValidWindow 524288 (windowLength s) v w) (p : Phase) where
+module _ (s : Settings) (v : ℕ) (w ms : List ℕ) (r : ℕ) (stands : Stands) (window : ValidWindow 524288 (windowLength s) v w) (p : Phase) where
   abbrev n : ℕ
   n = windowLength s
 

@@ -17,6 +17,7 @@ use Rattle.window.specs.WindowValid.{sum-le, leaving-le}
 use Rattle.rvc.specs.declared.Change.{Change}
 use Rattle.rvc.specs.declared.Phase.{Phase}
 use Rattle.rvc.specs.declared.Phase.the-variants.{Filling, Unsettled, Steady, Changing}
+use Rattle.rvc.specs.declared.Stands.{Stands}
 use Rattle.rvc.specs.declared.Joining.{Joining}
 use Rattle.rvc.specs.Signal.{limitIn, steadyAfter}
 use Rattle.rvc.specs.SignalLaws.{true-full}
@@ -24,13 +25,13 @@ use Rattle.rvc.specs.Phase.{signalIn, changeFrom, grown, movedBy, joinin
 use Rattle.rvc.specs.PhaseLaws.{valid-signal}
 use Rattle.rvc.specs.PhaseRuleLaws.{Allowed, allowed-valid, valid-allowed}
 
-module _ (n v : ℕ) (w ms : List ℕ) (r : ℕ) (stands : Bool) (window : ValidWindow 524288 n v w) where
+module _ (n v : ℕ) (w ms : List ℕ) (r : ℕ) (stands : Stands) (window : ValidWindow 524288 n v w) where
   abbrev j : Joining
   j = joiningOf n v w ms r stands
 
   changeFrom-valid : n ≤ 120 → n ≤ v → ValidChange n (suc v) (changeFrom j)
   changeFrom-valid most full =
-      (omega arith, (omega arith, (sum-le n v w most window, (omega arith, (λ e. refl, (stand stands, (omega arith, λ e. refl)))))))
+      (omega arith, (omega arith, (sum-le n v w most window, (omega arith, (λ e. refl, (stand (stands .first || stands .before), (omega arith, λ e. refl)))))))
     where
       stand : (b : Bool) → 0 < (if b then suc v else 0) → (suc v ≤ (if b then suc v else 0)) × ((if b then suc v else 0) ≤ suc v)
       stand true h = (omega arith, omega arith)
@@ -47,7 +48,7 @@ module _ (n v : ℕ) (w ms : List ℕ) (r : ℕ) (stands : Bool) (window : Valid
           grows (suc v - c .start <ᵇ n),
           (
             λ e. stays e (suc v - c .start <ᵇ n) refl,
-            (stand (0 <ᵇ c .stand) stands refl, (flag-most (clipped (suc v - c .start <ᵇ n)), λ e. unmarked e (suc v - c .start <ᵇ n) refl)),
+            (stand (0 <ᵇ c .stand) (stands .first) refl, (flag-most (clipped (suc v - c .start <ᵇ n)), λ e. unmarked e (suc v - c .start <ᵇ n) refl)),
           ),
         ),
       ),
@@ -78,7 +79,7 @@ module _ (n v : ℕ) (w ms : List ℕ) (r : ℕ) (stands : Bool) (window : Valid
       stand false false f h = absurd (omega arith)
 
 -- under any truth b: a signal that is true has a full window
-pub moved-valid : (n v : ℕ) (w ms : List ℕ) (r : ℕ) (stands b : Bool) (p : Phase) → n ≤ 120 → (b ≡ true → n ≤ suc v) → ValidWindow 524288 n v w → ValidPhase n v p →
+pub moved-valid : (n v : ℕ) (w ms : List ℕ) (r : ℕ) (stands : Stands) (b : Bool) (p : Phase) → n ≤ 120 → (b ≡ true → n ≤ suc v) → ValidWindow 524288 n v w → ValidPhase n v p →
     ValidPhase n (suc v) (movedBy n (joiningOf n v w ms r stands) b p .phase)
 moved-valid n v w ms r stands b p most full window valid = allowed-valid n (suc v) (movedBy n j′ b p .phase) (go b p full (valid-allowed n v p valid))
   where
@@ -97,7 +98,7 @@ moved-valid n v w ms r stands b p most full window valid = allowed-valid n (suc 
     go false (Changing c) full h = grown-valid n v w ms r stands window c h
 
 -- and under its own signal
-pub phase-valid : (s : Settings) (v : ℕ) (w ms : List ℕ) (r : ℕ) (stands : Bool) (p : Phase) → ValidWindow 524288 (windowLength s) v w → ValidPhase (windowLength s) v p →
+pub phase-valid : (s : Settings) (v : ℕ) (w ms : List ℕ) (r : ℕ) (stands : Stands) (p : Phase) → ValidWindow 524288 (windowLength s) v w → ValidPhase (windowLength s) v p →
     ValidPhase (windowLength s) (suc v) (movedAfter s v w ms r stands p .phase)
 phase-valid s v w ms r stands p window valid =
     let n = windowLength s in

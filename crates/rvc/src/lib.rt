@@ -27,7 +27,7 @@ pub struct Change {
     pub sum: u64,
     // The greatest difference from that of a value, times N, over k to V − N.
     pub difference: u64,
-    // The first value from k on at which a dip or a swell first stands, or 0.
+    // The first value from k on at which a dip or a swell first stands, or 0; k where one stands at k − 1.
     pub stand: u64,
     // Whether a value from k to V − N is clipped.
     pub clipped: bool,
@@ -41,6 +41,14 @@ pub enum Phase {
     Changing(Change),
 }
 
+// The dips and swells at a value.
+pub struct Stands {
+    // Whether one first stands at it.
+    pub first: bool,
+    // Whether one stands at the value before it.
+    pub before: bool,
+}
+
 // A value that joins the window.
 pub struct Joining {
     // Its number, from 1.
@@ -52,8 +60,8 @@ pub struct Joining {
     // The window's sum before it, and with it.
     pub before: u64,
     pub after: u64,
-    // Whether a dip or a swell first stands at it.
-    pub stands: bool,
+    // The dips and swells at it.
+    pub stands: Stands,
 }
 
 // The phase after a value, and the record of a change that ends with it, if one does.
@@ -69,8 +77,8 @@ fn distance(a: u64, b: u64) -> u64
     if a < b { b - a } else { a - b }
 }
 
-// The first stand that is kept, or value i, where a dip or a swell first stands there.
-fn first_stand(kept: u64, stands: bool, i: u64) -> u64
+// The stand that a change keeps: the one that it has, else value i, where `stands` says so, else 0.
+fn kept_stand(kept: u64, stands: bool, i: u64) -> u64
     ensures { λ r. ⌜ r ≡ (if 0 <ᵇ kept then kept else if stands then i else 0) ⌝ }
 {
     if 0 < kept {
@@ -172,7 +180,8 @@ impl Change {
     fn begin(joining: Joining) -> Change
         ensures { λ r. ⌜ r ≡ changeFrom joining ⌝ }
     {
-        let stand = if joining.stands { joining.number } else { 0 };
+        let stands = joining.stands;
+        let stand = kept_stand(0, stands.first | stands.before, joining.number);
         Change {
             start: joining.number,
             sum: joining.before,
@@ -194,7 +203,7 @@ impl Change {
             self.sum,
             self.difference,
         );
-        let stand = first_stand(self.stand, joining.stands, joining.number);
+        let stand = kept_stand(self.stand, joining.stands.first, joining.number);
         Change {
             start: self.start,
             sum: self.sum,
@@ -204,7 +213,7 @@ impl Change {
         }
     }
 
-    // Its record, over with a value; none where a dip or a swell first stood before the window.
+    // Its record, over with a value; none where the stand that is kept is before the window.
     fn event(self, window_length: u64, joining: Joining) -> Ended
         ensures { λ r. ⌜ r ≡ closing «window_length» joining self ⌝ }
     {

@@ -16,14 +16,14 @@ use Rattle.reading.specs.declared.Event.{Event}
 use Rattle.reading.specs.Values.{value, valueCount, history, since, upTo}
 use Rattle.reading.specs.Clipping.{valueClipped, marks, recordOf}
 use Rattle.reading.specs.Thresholds.{begins, ends, standsSince, magnitude, kindNumber, thresholdDue}
-use Rattle.reading.specs.Changes.{calm, windowSum, gap, Signal, next, signal, firstStand, sumBefore, greatestDifference, changeEvent, changeOver, changeDue}
+use Rattle.reading.specs.Changes.{calm, windowSum, gap, Signal, next, signal, firstStand, stoodBefore, sumBefore, greatestDifference, changeEvent, changeOver, changeDue}
 use Rattle.reading.specs.Changes.Signal.{filling, unsettled, steady, changing}
 use Rattle.reading.specs.Records.{due, recordsAt}
 use Rattle.reading.specs.Feed.{dueAfter, records}
 use Rattle.three_reading.specs.Three.{each, anyOf, allOf, Channel, at, channel, channels, jointHistory, jointMarks}
 use Rattle.three_reading.specs.Three.Channel.{onA, onB, onC}
 use Rattle.three_reading.specs.JointEvents.{jointBegins, jointEnds, jointSince, worst, jointThresholdDue}
-use Rattle.three_reading.specs.JointChanges.{isTrue, jointNext, signals, jointFirstStand, greatestOf, jointChangeEvent, jointChangeOver, jointChangeDue}
+use Rattle.three_reading.specs.JointChanges.{isTrue, jointNext, signals, jointFirstStand, jointDipOrSwell, jointStoodBefore, greatestOf, jointChangeEvent, jointChangeOver, jointChangeDue}
 use Rattle.three_reading.specs.JointRecords.{jointDue, jointRecordsAt}
 use Rattle.three_reading.specs.ThreeFeed.{jointDueAfter, jointRecords}
 use Rattle.three_laws.specs.ThreeSentences.{same, equally}
@@ -150,6 +150,13 @@ module _ (s : Settings) where
       let here = k ≤ᵇ v && (since-same Dip (r ∷ older) i ≡ᵇ v || since-same Swell (r ∷ older) i ≡ᵇ v) in
       if 0 <ᵇ before then before else if here then v else 0
 
+  stood-same : (k : ℕ) (hist : List ℕ) → jointStoodBefore s k (equally hist) ≡ stoodBefore s k hist
+  stood-same k hist =
+      let older = upTo (k - 1) hist in
+      let same-older : upTo (k - 1) (equally hist) ≡ equally older
+      = ap (λ (v : ℕ). drop (v - (k - 1)) (equally hist)) (length-map hist (same {X = ℕ})) ∙ drop-same (length hist - (k - 1)) hist in
+      ap (jointDipOrSwell s) same-older ∙ (λ i. 0 <ᵇ since-same Dip older i || 0 <ᵇ since-same Swell older i)
+
   greatest-each : (f : List ℕ → ℕ) (hist : List ℕ) → greatestOf (each f (channels (equally hist))) ≡ f hist
   greatest-each f hist = ap greatestOf (each-same f hist) ∙ greatest-same (f hist)
 
@@ -167,7 +174,7 @@ module _ (s : Settings) where
         first = greatest-each (greatestDifference s k) hist i;
         second = greatest-each (λ (own : List ℕ). gap (windowSum s own) (sumBefore s k own)) hist i;
       } in
-      if 0 <ᵇ stand i then [] else e ∷ []
+      if stood-same k hist i || 0 <ᵇ stand i then [] else e ∷ []
 
   over-same : (hist : List ℕ) (p q : Signal) → jointChangeOver s (equally hist) p q ≡ changeOver s hist p q
   over-same hist filling q = refl

@@ -1,7 +1,7 @@
 -- The joint events: when they stand, and that at most three records are due at one value.
 use mathlib.Core.Path.{_≡_, refl, sym, _∙_}
 use mathlib.Core.Logic.{_⊎_, inl, inr}
-use mathlib.Core.Bool.{Bool, true, false, _&&_}
+use mathlib.Core.Bool.{Bool, true, false, _&&_, _||_}
 use mathlib.Core.List.{List, [], _∷_, _++_}
 use Prim.Native.Nat.{ℕ, suc, _+_, _-_, _*_, _≤_, _<_}
 use native.Mathlib.Omega.{arith}
@@ -22,7 +22,7 @@ use Rattle.reading.specs.Changes.{Signal}
 use Rattle.reading.specs.Changes.Signal.{filling, unsettled, steady, changing}
 use Rattle.three_reading.specs.Three.{Three, each, Channel, at, jointHistory, jointMarks}
 use Rattle.three_reading.specs.JointEvents.{jointBegins, jointEnds, jointSince, jointThresholdDue}
-use Rattle.three_reading.specs.JointChanges.{jointFirstStand, jointChangeEvent, jointChangeOver, jointChangeDue, signals}
+use Rattle.three_reading.specs.JointChanges.{jointFirstStand, jointStoodBefore, jointChangeEvent, jointChangeOver, jointChangeDue, signals}
 use Rattle.three_reading.specs.JointRecords.{jointDue, jointRecordsAt}
 use Rattle.three_laws.specs.ChannelLaws.{at-each, all-at, not-all-at, any-at, not-any-at}
 
@@ -107,7 +107,7 @@ module _ (s : Settings) where
   change-due-le (r ∷ older) = go (signals s older .joint) (signals s (r ∷ older) .joint)
     where
       event-le : (k : ℕ) → length (jointChangeEvent s k (r ∷ older)) ≤ 1
-      event-le k = drops (0 <ᵇ jointFirstStand s k (drop (windowLength s) (r ∷ older))) _
+      event-le k = drops (jointStoodBefore s k (r ∷ older) || 0 <ᵇ jointFirstStand s k (drop (windowLength s) (r ∷ older))) _
         where
           drops : (b : Bool) (e : Event) → length (if b then [] else e ∷ []) ≤ 1
           drops true e = omega arith

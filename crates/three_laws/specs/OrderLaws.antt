@@ -4,7 +4,7 @@ use mathlib.Core.Bool.{Bool, true, false, _&&_, _||_}
 use mathlib.Core.List.{List, [], _∷_, _++_, map}
 use Prim.Native.Nat.{ℕ, zero, suc, _+_, _-_}
 use native.Mathlib.Omega.{arith}
-use lib.ListN.{length-map, drop}
+use lib.ListN.{length, length-map, drop}
 use lib.IntN.{ℤ}
 use Rattle.settings.specs.declared.Settings.{Settings}
 use Rattle.settings.specs.Settings.{windowLength}
@@ -12,7 +12,7 @@ use Rattle.numbers.specs.Notation.{_≤ᵇ_, _<ᵇ_, _≡ᵇ_, if_then_else_, f
 use Rattle.reading.specs.declared.Kind.{Kind}
 use Rattle.reading.specs.declared.Kind.the-variants.{Dip, Swell, Interruption}
 use Rattle.reading.specs.declared.Event.{Event}
-use Rattle.reading.specs.Values.{value, valueCount, since}
+use Rattle.reading.specs.Values.{value, valueCount, since, upTo}
 use Rattle.reading.specs.Clipping.{valueClipped, recordOf}
 use Rattle.reading.specs.Thresholds.{begins, ends, magnitude, kindNumber}
 use Rattle.reading.specs.Changes.{windowSum, gap, Signal, signal, sumBefore, greatestDifference}
@@ -20,7 +20,7 @@ use Rattle.reading.specs.Changes.Signal.{filling, unsettled, steady, changing}
 use Rattle.three_reading.specs.Three.{Three, each, anyOf, allOf, Channel, at, channel, channels, jointCount, jointHistory, jointMarks}
 use Rattle.three_reading.specs.Three.Channel.{onA, onB, onC}
 use Rattle.three_reading.specs.JointEvents.{jointBegins, jointEnds, jointSince, worst, jointThresholdDue}
-use Rattle.three_reading.specs.JointChanges.{isTrue, jointNext, signals, jointFirstStand, greatestOf, jointChangeEvent, jointChangeOver, jointChangeDue}
+use Rattle.three_reading.specs.JointChanges.{isTrue, jointNext, signals, jointFirstStand, jointDipOrSwell, jointStoodBefore, greatestOf, jointChangeEvent, jointChangeOver, jointChangeDue}
 use Rattle.three_reading.specs.JointRecords.{jointDue, jointRecordsAt}
 use Rattle.three_reading.specs.ThreeFeed.{jointDueAfter, jointRecords}
 use Rattle.three_laws.specs.ChannelLaws.{at-each, at-channels}
@@ -175,6 +175,13 @@ module _ {x y z : Channel} (fair : Fair x y z) where
         let here = k ≤ᵇ v && (since-ordered Dip (r ∷ older) i ≡ᵇ v || since-ordered Swell (r ∷ older) i ≡ᵇ v) in
         if 0 <ᵇ before then before else if here then v else 0
 
+    stood-ordered : (k : ℕ) (hist : List (Three ℕ)) → jointStoodBefore s k (map o hist) ≡ jointStoodBefore s k hist
+    stood-ordered k hist =
+        let older = upTo (k - 1) hist in
+        let same-older : upTo (k - 1) (map o hist) ≡ map o older
+        = ap (λ (v : ℕ). drop (v - (k - 1)) (map o hist)) (length-map hist (o {X = ℕ})) ∙ drop-ordered (length hist - (k - 1)) hist in
+        ap (jointDipOrSwell s) same-older ∙ (λ i. 0 <ᵇ since-ordered Dip older i || 0 <ᵇ since-ordered Swell older i)
+
     change-ordered : (k : ℕ) (hist : List (Three ℕ)) → jointChangeEvent s k (map o hist) ≡ jointChangeEvent s k hist
     change-ordered k hist =
         let n = windowLength s in
@@ -188,7 +195,7 @@ module _ {x y z : Channel} (fair : Fair x y z) where
           first = greatest-each (greatestDifference s k) hist i;
           second = greatest-each (λ (own : List ℕ). gap (windowSum s own) (sumBefore s k own)) hist i;
         } in
-        if 0 <ᵇ stand i then [] else e ∷ []
+        if stood-ordered k hist i || 0 <ᵇ stand i then [] else e ∷ []
 
     over-ordered : (hist : List (Three ℕ)) (p q : Signal) → jointChangeOver s (map o hist) p q ≡ jointChangeOver s hist p q
     over-ordered hist filling q = refl

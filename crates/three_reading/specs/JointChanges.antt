@@ -1,4 +1,4 @@
--- 02, N2: rapid voltage changes of three channels.
+-- 02, N2: rapid voltage changes of three channels, with N5's recovery from a long dip.
 use mathlib.Core.Bool.{Bool, true, false, _&&_, _||_}
 use mathlib.Core.List.{List, [], _∷_}
 use Prim.Native.Nat.{ℕ, suc, _-_}
@@ -8,6 +8,7 @@ use Rattle.numbers.specs.Notation.{_≤ᵇ_, _<ᵇ_, _≡ᵇ_, if_then_else_}
 use Rattle.settings.specs.Settings.{windowLength}
 use Rattle.reading.specs.declared.Kind.the-variants.{Dip, Swell}
 use Rattle.reading.specs.declared.Event.{Event}
+use Rattle.reading.specs.Values.{upTo}
 use Rattle.reading.specs.Thresholds.{greatest}
 use Rattle.reading.specs.Changes.{windowSum, gap, Signal, next, sumBefore, greatestDifference}
 use Rattle.reading.specs.Changes.Signal.{filling, unsettled, steady, changing}
@@ -57,12 +58,20 @@ jointFirstStand s k (r ∷ older) =
     let here = k ≤ᵇ i && (jointSince s Dip (r ∷ older) ≡ᵇ i || jointSince s Swell (r ∷ older) ≡ᵇ i) in
     if 0 <ᵇ before then before else if here then i else 0
 
+-- whether the joint dip or swell stands at the newest value
+abbrev pub jointDipOrSwell : Settings → List (Three ℕ) → Bool
+jointDipOrSwell s hist = 0 <ᵇ jointSince s Dip hist || 0 <ᵇ jointSince s Swell hist
+
+-- 02, N5: whether it stands at value k − 1
+abbrev pub jointStoodBefore : Settings → ℕ → List (Three ℕ) → Bool
+jointStoodBefore s k hist = jointDipOrSwell s (upTo (k - 1) hist)
+
 -- the worst channel's of a change's magnitudes
 abbrev pub greatestOf : Three ℕ → ℕ
 greatestOf t = greatest (t .a ∷ t .b ∷ t .c ∷ [])
 
 -- the record of a change that runs from the joint k to the newest value, m: its magnitudes are each by itself the worst channel's, each channel against its own
--- A(k − 1); none if the joint dip or swell first stands at k to m − N
+-- A(k − 1); none if the joint dip or swell stands at k − 1, or first stands at k to m − N
 abbrev pub jointChangeEvent : Settings → ℕ → List (Three ℕ) → List Event
 jointChangeEvent s k hist =
     let n = windowLength s in
@@ -74,7 +83,7 @@ jointChangeEvent s k hist =
       first = greatestOf (each (greatestDifference s k) (channels hist));
       second = greatestOf (each (λ (own : List ℕ). gap (windowSum s own) (sumBefore s k own)) (channels hist));
     } in
-    if 0 <ᵇ jointFirstStand s k (drop n hist) then [] else e ∷ []
+    if jointStoodBefore s k hist || 0 <ᵇ jointFirstStand s k (drop n hist) then [] else e ∷ []
 
 -- due at the newest value: the change in progress before it, where the joint signal is true again
 abbrev pub jointChangeOver : Settings → List (Three ℕ) → Signal → Signal → List Event

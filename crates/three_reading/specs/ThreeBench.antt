@@ -9,7 +9,7 @@ use Rattle.reading.specs.declared.Kind.{Kind}
 use Rattle.reading.specs.declared.Kind.the-variants.{Dip, Swell, Interruption}
 use Rattle.reading.specs.declared.Event.{Event}
 use Rattle.reading.specs.declared.Record.{Record}
-use Rattle.reading.specs.Bench.{q, qLoud, repeated, withFirst, loudDip}
+use Rattle.reading.specs.Bench.{q, qLoud, repeated, valuesOf, withFirst, loudDip}
 use Rattle.reading.specs.Changes.Signal.{unsettled, steady, changing}
 use Rattle.reading.specs.Records.{recordBytes}
 use Rattle.three_reading.specs.Three.{Three, jointValues}
@@ -71,13 +71,10 @@ level x y z = tripled (halvesOf 2 x) (halvesOf 2 y) (halvesOf 2 z)
 abbrev pub stands : Kind → List (Three ℤ) → ℕ
 stands kind rec = jointSince q kind (jointValues q rec)
 
--- n values of x counts
-abbrev pub valuesOf : ℕ → ℕ → List ℕ
-valuesOf n x = replicate n (16 * x)
-
--- a history, the newest values first: a is at x from value 3 on, and below D before; b is below D at value 107; c rises at 108 for good
-abbrev pub fallsBeside : ℕ → List (Three ℕ)
-fallsBeside x = tripled (valuesOf 207 x ++ valuesOf 2 80) (valuesOf 102 100 ++ (valuesOf 1 89 ++ valuesOf 106 100)) (valuesOf 102 104 ++ valuesOf 107 100)
+-- a history, the newest values first: a is at x up to value 105, and then at y; b is at z at value 107; c rises at 108 for good. The joint signal turns false at 107,
+-- or at 106 where y is far from x
+abbrev pub fallsBeside : ℕ → ℕ → ℕ → List (Three ℕ)
+fallsBeside x y z = tripled (valuesOf 104 y ++ valuesOf 105 x) (valuesOf 102 100 ++ (valuesOf 1 z ++ valuesOf 106 100)) (valuesOf 102 104 ++ valuesOf 107 100)
 
 -- a history: a falls at value 101, and a little back at 102, for good; so m is 202, and m − N is 102. b is at D, and below it n values before the newest
 abbrev pub dipsLate : ℕ → List (Three ℕ)
@@ -152,12 +149,25 @@ pub record ThreeBenchReadings : Type 0 where
       ≡ 0 ∷ 1 ∷ 0 ∷ 1 ∷ []
   -- a change from a's turn at 151 to value 258, where c is steady again; the worst channel's is c's, a's are 6368
   pub change-due : eventsOf change ≡ record { kind = 4; start = 151; duration = 7; first = 6400; second = 6400 } ∷ []
-  -- b falls while the dip stands since value 1, for a is at 91: this starts nothing, and the change is kept. Its magnitudes are b's and c's
-  pub change-kept : jointEvents q (fallsBeside 91) ≡ record { kind = 4; start = 107; duration = 2; first = 17600; second = 6400 } ∷ []
-  -- with a at 100 the first dip is over, b's fall at value 107 is another, and the change is dropped
+  -- a's dip ended at value 106, which is k − 1: b's change is kept. Its magnitudes are b's and c's. So with a swell
+  pub change-kept :
+      jointEvents q (fallsBeside 89 92 95)
+      ≡ record { kind = 1; start = 1; duration = 105; first = 1424; second = 0 } ∷ record { kind = 4; start = 107; duration = 2; first = 8000; second = 6400 } ∷ []
+  pub change-kept-after-swell :
+      jointEvents q (fallsBeside 111 108 95)
+      ≡ record { kind = 2; start = 1; duration = 105; first = 1776; second = 0 } ∷ record { kind = 4; start = 107; duration = 2; first = 8000; second = 6400 } ∷ []
+  -- where b falls below D, this is another dip, and the change is dropped
   pub change-dropped :
-      jointEvents q (fallsBeside 100)
-      ≡ record { kind = 1; start = 1; duration = 2; first = 1280; second = 0 } ∷ record { kind = 1; start = 107; duration = 1; first = 1424; second = 0 } ∷ []
+      jointEvents q (fallsBeside 89 92 89)
+      ≡ record { kind = 1; start = 1; duration = 105; first = 1424; second = 0 } ∷ record { kind = 1; start = 107; duration = 1; first = 1424; second = 0 } ∷ []
+  -- a's dip, or its swell, ends at k, which is 106: the change is dropped
+  pub change-out-of-dip : jointEvents q (fallsBeside 89 100 100) ≡ record { kind = 1; start = 1; duration = 105; first = 1424; second = 0 } ∷ []
+  pub change-out-of-swell : jointEvents q (fallsBeside 111 100 100) ≡ record { kind = 2; start = 1; duration = 105; first = 1776; second = 0 } ∷ []
+  -- a's dip, or its swell, stands at k − 1 and goes on: b's change is dropped
+  pub change-in-dip : jointEvents q (fallsBeside 89 91 95) ≡ []
+  pub change-in-swell : jointEvents q (fallsBeside 111 109 95) ≡ []
+  -- where b falls below D, it is in that dip, too, which goes on: there is no other
+  pub change-in-dip-of-two : jointEvents q (fallsBeside 89 91 89) ≡ []
   -- the dip first stands at value 103, after m − N: it drops nothing. Both magnitudes are a's
   pub change-before-dip : jointDue q (dipsLate 99) ≡ record { kind = 4; start = 101; duration = 1; first = 12800; second = 6400 } ∷ []
   -- at value 102, which is m − N, it drops the change

@@ -39,7 +39,7 @@ use Rattle.state.specs.StepFollows.{halves-none, readings-of}
 use Rattle.three_reading.specs.Three.{Three, anyOf, Channel, at, channel, jointCount, jointValue, jointHistory, jointValues, jointMarks}
 use Rattle.three_reading.specs.Three.Channel.{onA, onB, onC}
 use Rattle.three_reading.specs.JointEvents.{jointSince}
-use Rattle.three_reading.specs.JointChanges.{signals, jointFirstStand}
+use Rattle.three_reading.specs.JointChanges.{signals}
 use Rattle.three_reading.specs.JointRecords.{jointDue, jointRecordsAt}
 use Rattle.three_reading.specs.ThreeFeed.{jointDueAfter}
 use Rattle.three_reading.specs.ThreeEngineer.{channelReadings, jointReadings}
@@ -47,7 +47,7 @@ use Rattle.three_laws.specs.ChannelLaws.{length-channel, channel-append}
 use Rattle.three_laws.specs.RecordingsLaws.{count-channel, length-jointHistory, length-jointMarks, channel-value, channel-history, jointHistory-grow, jointMarks-grow}
 use Rattle.three_laws.specs.ThreePast.{threePast}
 use Rattle.joint.specs.declared.Values.{Values}
-use Rattle.joint.specs.Joint.{threeOf, sizesOf, noValues}
+use Rattle.joint.specs.Joint.{threeOf, sizesOf, noValues, jointStand}
 use Rattle.joint.specs.JointFollows.{joint-follows, joint-due-follows}
 use Rattle.three_state.specs.declared.Gatherers.{Gatherers}
 use Rattle.three_state.specs.declared.Parts.{Parts}
@@ -317,7 +317,7 @@ three-readings-of s rec = λ i. record {
         ∙ channel-readings s (channel c rec)
         ∙ sym (ap (channelReadings s) (values-are c))
 
-    phase-is : (q : Signal) → phaseNumberOf (phaseUnder s (channel onA hist) (jointMarks s rec (jointCount s rec)) (λ k. jointFirstStand s k hist) q) ≡ phaseNumber q
+    phase-is : (q : Signal) → phaseNumberOf (phaseUnder s (channel onA hist) (jointMarks s rec (jointCount s rec)) (λ k. jointStand s k hist) q) ≡ phaseNumber q
     phase-is filling = refl
     phase-is unsettled = refl
     phase-is steady = refl

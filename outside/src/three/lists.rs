@@ -8,7 +8,7 @@
 use super::engineer::Engineer;
 use super::logger::Logger;
 use super::program::HIGH;
-use super::seen::Marks;
+use super::seen::{Marks, Stands};
 use super::{waves, Looked};
 use crate::call_lists::{buffer, List};
 use crate::engineer::Fed;
@@ -22,7 +22,7 @@ const MOST_SAMPLES: usize = 32_766;
 /// The lists that the gate runs the program on in one go, by their numbers under a seed: together
 /// they have everything that is counted.
 const FILES_SEED: u64 = 1;
-const FILES_LISTS: [u64; 10] = [398, 494, 751, 1027, 1229, 2700, 2719, 3008, 3752, 3813];
+const FILES_LISTS: [u64; 10] = [871, 1027, 4232, 4323, 4466, 7760, 7844, 8300, 11089, 11386];
 
 /// The kinds of item, in the program's numbers.
 const START: u8 = 0;
@@ -40,6 +40,8 @@ pub struct Tally {
     /// Records, by kind, 1 to 4, without and with the mark; and what the marks of all have shown.
     records: [[u64; 2]; 5],
     marks: Marks,
+    /// What joint dips and swells that stand before a change have shown.
+    stands: Stands,
     /// Phases, and dips, swells and interruptions that stand, in what look tells.
     phases: [u64; 4],
     stand: [u64; 3],
@@ -83,6 +85,7 @@ impl Tally {
         add("feed refused, no room".into(), self.refused[0]);
         add("feed refused, room".into(), self.refused[1]);
         list.extend(self.marks.counts());
+        list.extend(self.stands.counts());
         list
     }
 }
@@ -238,10 +241,10 @@ fn start<'a>(
 }
 
 /// A dip, an interruption and a change that end with one value: with no room for the third record,
-/// with room for all, and a look after each.
+/// with room for all, and a look after each. Both events first stand after m − N.
 fn three_due(rng: &mut Rng, seen: &mut Tally) -> List {
     let s = Settings { i: HIGH.d, g: 0, ..HIGH };
-    let steps = [(150, 22_250), (2, 21_250), (100, 22_250), (3, 22_750)];
+    let steps = [(150, 22_500), (2, 23_500), (98, 22_500), (2, 22_250), (3, 22_750)];
     let block = steps.map(|(halves, count)| vec![count; 24 * halves]).concat();
     let mut making = start(List::default(), s, 4, rng, seen);
     let taken = making.feed(&block, 59);
@@ -268,7 +271,9 @@ pub fn list(rng: &mut Rng, seen: &mut Tally) -> List {
     let mut making = start(list, s, calls + 2, rng, seen);
     making.calls(calls);
     assert_eq!(making.engineer.written(), making.engineer.due());
-    making.seen.marks.readings(&making.engineer.readings());
+    let readings = making.engineer.readings();
+    making.seen.marks.readings(&readings);
+    making.seen.stands.readings(&readings);
     making.list
 }
 

@@ -53,7 +53,8 @@ impl Window {
 }
 
 /// What a joint change in progress carries: k, each channel's sum at k − 1, the greatest difference
-/// in any channel, where a joint dip or swell first stood, and the mark.
+/// in any channel, where a joint dip or swell first stood, or k for one that stood at k − 1, and the
+/// mark.
 #[derive(Clone, Copy)]
 struct Change {
     k: u32,
@@ -244,6 +245,9 @@ impl Logger {
             }
             _ if steady => Phase::Steady,
             Phase::Steady => {
+                // What stands after V drops the change as what first stands at k does.
+                let stood = self.dip.start > 0 || self.swell.start > 0;
+                let stand = if stood { i } else { stand };
                 Phase::Change(Change { k: i, before, greatest: 0, stand, clipped: false })
             }
             Phase::Filling | Phase::NeverSteady => Phase::NeverSteady,

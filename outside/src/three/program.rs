@@ -82,8 +82,8 @@ pub(super) const HIGH: Settings = Settings {
 
 /// The recording in crates/event_log_three: a change that begins in a and ends in c; a dip that goes
 /// from channel to channel, with a swell in c and an interruption while all are down in it; a swell
-/// with clipped samples; both hide a change. Then a random recording, a dip that does not end, and
-/// five bytes of a triple.
+/// with clipped samples; both hide a change. Then a long dip in b that hides a change in a and the one
+/// out of it; a random recording, a dip that does not end, and five bytes of a triple.
 pub fn recording() -> Vec<u8> {
     let mut triples = Vec::new();
     // For so many half-cycles, counts of the three channels.
@@ -101,6 +101,9 @@ pub fn recording() -> Vec<u8> {
         (115, [25_000, 25_000, 25_000]),
         (4, [32_767, 25_000, 25_000]),
         (115, [25_000, 25_000, 25_000]),
+        (120, [25_000, 22_000, 25_000]),
+        (110, [24_000, 22_000, 25_000]),
+        (110, [25_000, 25_000, 25_000]),
     ];
     for (halves, counts) in steps {
         for _ in 0..8 * halves {

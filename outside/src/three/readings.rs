@@ -76,8 +76,13 @@ impl<'a> Readings<'a> {
         }
     }
 
+    /// Whether the joint dip or swell stands after i.
+    pub fn dip_or_swell_stands(&self, i: i64) -> bool {
+        self.dip[i as usize] || self.swell[i as usize]
+    }
+
     /// Whether the joint dip or swell first stands at i.
-    fn dip_or_swell_begins(&self, i: i64) -> bool {
+    pub fn dip_or_swell_begins(&self, i: i64) -> bool {
         begins(&self.dip, i) || begins(&self.swell, i)
     }
 
@@ -103,8 +108,15 @@ impl<'a> Readings<'a> {
         from.filter_map(|k| Some((k, (k + 1..=v).find(|&m| self.steady(m))?))).collect()
     }
 
-    /// Whether a change from k to m gives no record.
+    /// Whether a change from k to m gives no record: the joint dip or swell stands at k − 1, or first
+    /// stands in it.
     pub fn dropped(&self, k: i64, m: i64) -> bool {
+        self.dip_or_swell_stands(k - 1) || self.begins_in(k, m)
+    }
+
+    /// Whether the joint dip or swell first stands in a change from k to m: at some value from k to
+    /// m − N.
+    pub fn begins_in(&self, k: i64, m: i64) -> bool {
         (k..=m - self.s.n).any(|j| self.dip_or_swell_begins(j))
     }
 

@@ -3,7 +3,7 @@
 use super::readings::Readings;
 use super::CHANNELS;
 use crate::program::Text;
-use crate::readings::{begins, Record};
+use crate::readings::{begins, Readings as Own, Record};
 use crate::seen::KINDS;
 
 /// What the marks of joint records have shown. Numbers for each kind of record have an unused place 0.
@@ -55,6 +55,63 @@ impl Marks {
     }
 }
 
+/// What joint dips and swells that stand before a joint change have shown. Numbers for the dip and for
+/// the swell where there are two.
+#[derive(Default)]
+pub struct Stands {
+    /// Changes dropped by one that stands at k − 1 and by nothing else: it ends at k, or goes on.
+    ends: [u64; 2],
+    goes_on: [u64; 2],
+    /// Those of them that have it by other channels' own than the channels that turn the signal; and
+    /// by no channel's own.
+    elsewhere: u64,
+    no_own: u64,
+    /// Changes kept after one that ended at k − 1.
+    ended: [u64; 2],
+}
+
+impl Stands {
+    /// The changes of recordings.
+    pub fn readings(&mut self, x: &Readings) {
+        for (k, m) in x.changes() {
+            let dropped = x.dropped(k, m);
+            let begins = x.begins_in(k, m);
+            let stands = |e: usize, i: i64| x.stands(KINDS[e].0 as i64)[i as usize];
+            for e in 0..2 {
+                self.ended[e] += (!dropped && stands(e, k - 2) && !stands(e, k - 1)) as u64;
+                if dropped && !begins && stands(e, k - 1) && !stands(1 - e, k - 1) {
+                    self.ends[e] += !stands(e, k) as u64;
+                    self.goes_on[e] += stands(e, k) as u64;
+                    self.channels(x, KINDS[e].0 as i64, k);
+                }
+            }
+        }
+    }
+
+    /// Of a change from k, the channels whose own event of this kind stands at k − 1.
+    fn channels(&mut self, x: &Readings, kind: i64, k: i64) {
+        let own = |x: &&Own| x.stands(kind)[k as usize - 1];
+        let channels: Vec<&Own> = x.channels().iter().filter(own).collect();
+        let elsewhere = channels.iter().all(|x| x.steady(k));
+        self.no_own += channels.is_empty() as u64;
+        self.elsewhere += (!channels.is_empty() && elsewhere) as u64;
+    }
+
+    /// Every count under its name.
+    pub fn counts(&self) -> Vec<(String, u64)> {
+        let mut list = Vec::new();
+        let mut add = |name: String, count: u64| list.push((name, count));
+        for (e, (_, name)) in KINDS[..2].iter().enumerate() {
+            add(format!("change dropped by a {name} at k - 1 that ends at k"), self.ends[e]);
+            add(format!("change dropped by a {name} at k - 1 that goes on"), self.goes_on[e]);
+            add(format!("change kept, a {name} ended at k - 1"), self.ended[e]);
+        }
+        add("change dropped by another channel's event at k - 1".into(), self.elsewhere);
+        add("change dropped by no channel's own event at k - 1".into(), self.no_own);
+        list
+    }
+}
+
 /// What recordings and the inputs of the event program have shown. Numbers for each kind of record
 /// have an unused place 0.
 #[derive(Default)]
@@ -81,15 +138,16 @@ pub struct Seen {
     /// Windows in a change that are calm under T, and not under T − H.
     between: u64,
     /// Changes that one channel begins and others end; whose magnitudes are of two channels; that a
-    /// dip or swell drops; in which a channel's own dip or swell begins and the joint one does not.
+    /// dip or swell drops.
     handed_on: u64,
     two_channels: u64,
     dropped: u64,
-    not_dropped: u64,
-    /// Changes with a joint dip or swell that first stands at m − N, and there is none before; and at
-    /// some later value, which drops nothing.
+    /// Changes with a joint dip or swell that first stands at m − N, and there is none from k − 1 to
+    /// there; and at some later value, which drops nothing.
     dropped_last: u64,
     later: u64,
+    /// What joint dips and swells that stand before a change have shown.
+    stands: Stands,
     /// Values that have two records or more.
     two_due: u64,
     /// Inputs, by the bytes of their last, incomplete triple; refusals, 1 to 6; events that had not
@@ -122,6 +180,7 @@ impl Seen {
         self.two_due += records.windows(2).filter(|x| x[0].due == x[1].due).count() as u64;
         self.events(x);
         self.changes(x);
+        self.stands.readings(x);
         self.limits(x);
     }
 
@@ -160,14 +219,11 @@ impl Seen {
             let worst = [0, 1].map(|j| differences.iter().map(|x| x[j]).max().unwrap());
             self.two_channels += !differences.contains(&worst) as u64;
             let dropped = x.dropped(k, m);
-            let own = |i: i64| {
-                x.channels().iter().any(|x| begins(x.stands(1), i) || begins(x.stands(2), i))
-            };
-            let joint = |i: i64| begins(x.stands(1), i) || begins(x.stands(2), i);
-            self.dropped_last += (joint(m - n) && !(k..m - n).any(joint)) as u64;
+            let joint = |i: i64| x.dip_or_swell_begins(i);
+            let before = x.dip_or_swell_stands(k - 1) || (k..m - n).any(joint);
+            self.dropped_last += (joint(m - n) && !before) as u64;
             self.later += (!dropped && (m - n + 1..=m).any(joint)) as u64;
             self.dropped += dropped as u64;
-            self.not_dropped += (!dropped && (k..=m - n).any(own)) as u64;
         }
     }
 
@@ -243,7 +299,9 @@ impl Seen {
         add("change dropped".into(), self.dropped);
         add("change dropped by an event at m - N".into(), self.dropped_last);
         add("change not dropped by an event after m - N".into(), self.later);
-        add("change not dropped by a channel's own event".into(), self.not_dropped);
+        for (name, count) in self.stands.counts() {
+            add(name, count);
+        }
         add("two records at one value".into(), self.two_due);
         for (bytes, count) in self.rest.into_iter().enumerate() {
             add(format!("{bytes} bytes of a last triple"), count);

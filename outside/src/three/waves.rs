@@ -1,6 +1,7 @@
 //! Random settings and recordings of three phases: events that go from channel to channel, values on
 //! limits in single channels, changes that begin in one channel and end in another, exactly at the
-//! limits or just outside, and clipped samples in one channel where a mark begins and ends to count.
+//! limits or just outside, dips and swells about the first value of a change, and clipped samples in
+//! one channel where a mark begins and ends to count.
 
 use super::engineer::readings;
 use super::CHANNELS;
@@ -168,10 +169,10 @@ impl<'a> Scenes<'a> {
         x.rest(rest);
         while x.levels.len() < halves {
             if long && x.rng.chance(75) {
-                if x.rng.chance(30) {
-                    x.edge();
-                } else {
-                    x.change();
+                match x.rng.range(0, 9) {
+                    0..=2 => x.edge(),
+                    3 => x.held(),
+                    _ => x.change(),
                 }
                 continue;
             }
@@ -390,25 +391,53 @@ impl<'a> Scenes<'a> {
     }
 
     /// A change from k to k + N + 1 in one channel, and a dip or swell by a small step in another, that
-    /// first stands about k and k + 1.
+    /// first stands about k and k + 1, and sometimes ends soon.
     fn edge(&mut self) {
         let s = self.s;
         let c = self.rng.range(0, 2) as usize;
         let z = (c + self.rng.range(1, 2) as usize) % CHANNELS;
-        let (limit, sign) = one_of(&[(part(s, s.d), -1), (part(s, s.w), 1)], self.rng);
+        let dip = (part(s, s.d), -1, part(s, s.d + s.g));
+        let swell = (part(s, s.w), 1, part(s, s.w - s.g));
+        let (limit, sign, ends) = one_of(&[dip, swell], self.rng);
         self.base[z] = limit;
         self.rest(s.n + 5);
-        let stand = one_of(&[-1, 0, 1, 1, 1, 2, 2], self.rng);
-        let size = 2 * self.wide();
-        for j in -1..s.n + 3 {
+        let (stand, end) = match self.rng.range(0, 9) {
+            0..=2 => (-2, -1),
+            3 => (-1, 0),
+            4 => (-2, one_of(&[0, 1, s.n], self.rng)),
+            _ => (one_of(&[-1, 0, 1, 1, 1, 2, 2], self.rng), s.n),
+        };
+        let size = self.wide() * self.rng.range(1, 2);
+        for j in -2..s.n + 3 {
             if j == 0 {
                 self.step(c, size);
             }
             if j == stand {
                 self.base[z] = limit + sign;
+            } else if j == end {
+                self.base[z] = ends;
             }
             self.rest(1);
         }
+        self.base[z] = self.home[z];
+    }
+
+    /// A joint dip or swell that a channel between its limits holds while no channel's own stands, until
+    /// all are steady; then a change.
+    fn held(&mut self) {
+        let s = self.s;
+        let kind = self.rng.range(1, 2);
+        let x = self.rng.range(0, 2) as usize;
+        let z = (x + self.rng.range(1, 2) as usize) % CHANNELS;
+        self.base[z] = self.leaves(kind);
+        let mut levels = self.base;
+        levels[x] = self.begins(kind);
+        self.levels.extend(vec![levels; self.rng.range(1, 3) as usize]);
+        let halves = s.n + self.rng.range(3, 6);
+        self.rest(halves);
+        let (c, size) = (self.rng.range(0, 2) as usize, self.wide());
+        self.step(c, size);
+        self.rest(s.n + 3);
         self.base[z] = self.home[z];
     }
 

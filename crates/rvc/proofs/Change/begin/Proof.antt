@@ -1,12 +1,13 @@
--- In each branch the stand is the definition's.
+-- The stand is as `kept_stand` tells it, with none kept before.
+use borrow.Author.Needs.{needs}
 use Rattle.rvc.proofs.Change.begin.Statement.{statement}
 use Rattle.rvc.proofs.Change.begin.Tie as tie
 
 returns : tie.Need-returns
-returns c = rw (c .if1 .taken)
+returns c = rw (c .kept-stand .ensures)
 
-returns-2 : tie.Need-returns-2
-returns-2 c = rw (c .if1 .left)
+kept-stand-requires : tie.Need-kept-stand-requires
+kept-stand-requires c κs = search needs
 
 pub begin-spec : {M : Type 1} → statement M
-begin-spec = tie.close (tie.spec returns returns-2)
+begin-spec = tie.close (tie.spec kept-stand-requires returns)

@@ -1,0 +1,99 @@
+//! Counts of what events that stand before a change have shown, in recordings and in images.
+
+use crate::images::Fields;
+use crate::readings::Readings;
+use crate::room::RECORD;
+use crate::rules::four;
+use crate::seen::KINDS;
+
+/// Numbers for the dip and for the swell where there are two.
+#[derive(Default)]
+pub struct Stands {
+    /// Changes dropped by one that stands at k − 1 and by nothing else: it ends at k, or goes on; and
+    /// those whose one first stood at k − 1.
+    ends: [u64; 2],
+    goes_on: [u64; 2],
+    short: u64,
+    /// Changes kept after one that ended at k − 1.
+    ended: [u64; 2],
+    /// Images whose fourth number is k by one that stood at k − 1, and none first stands at k; and
+    /// those of them in which another first stands later.
+    held: u64,
+    held_with_another: u64,
+    /// Changes recorded from accepted images: of the edition before, with 0 though one stood at k − 1;
+    /// and in which only an interruption stood at k − 1.
+    edition_before: u64,
+    interrupted: u64,
+}
+
+impl Stands {
+    /// The changes of a recording.
+    pub fn recording(&mut self, x: &Readings) {
+        for (k, m) in x.changes() {
+            let dropped = x.dropped(k, m);
+            let by_standing = dropped && !x.begins_in(k, m);
+            self.short += (by_standing && x.dip_or_swell_begins(k - 1)) as u64;
+            for e in 0..2 {
+                let stands = |i: i64| x.stands(KINDS[e].0 as i64)[i as usize];
+                self.ends[e] += (by_standing && stands(k - 1) && !stands(k)) as u64;
+                self.goes_on[e] += (by_standing && stands(k - 1) && stands(k)) as u64;
+                self.ended[e] += (!dropped && stands(k - 2) && !stands(k - 1)) as u64;
+            }
+        }
+    }
+
+    /// The image of a recording.
+    pub fn image(&mut self, x: &Readings, image: &Fields) {
+        let [k, _, _, fourth] = image.change.map(i64::from);
+        if image.phase == 3 && fourth == k && !x.dip_or_swell_begins(k) {
+            self.held += 1;
+            self.held_with_another += (x.first_stand(k) > 0) as u64;
+        }
+    }
+
+    /// The records written from an image that the edition before saved in a change.
+    pub fn edition_before(&mut self, image: &Fields, records: &[u8]) {
+        let [k, _, _, fourth] = image.change.map(i64::from);
+        self.edition_before += (fourth == 0 && change(records, k).is_some()) as u64;
+    }
+
+    /// The records written from any accepted image.
+    pub fn accepted(&mut self, image: &Fields, records: &[u8]) {
+        let [dip, _, swell, _, interruption, _] = image.events;
+        let alone = dip == 0 && swell == 0 && interruption > 0;
+        let next = image.v as i64 + 1;
+        let begun = image.phase == 2 && change(records, next).is_some();
+        self.interrupted += (alone && begun) as u64;
+    }
+
+    /// The counts of recordings under their names.
+    pub fn recording_counts(&self) -> Vec<(String, u64)> {
+        let mut list = Vec::new();
+        let mut add = |name: String, count: u64| list.push((name, count));
+        for (e, (_, name)) in KINDS[..2].iter().enumerate() {
+            add(format!("change dropped by a {name} at k - 1 that ends at k"), self.ends[e]);
+            add(format!("change dropped by a {name} at k - 1 that goes on"), self.goes_on[e]);
+            add(format!("change kept, a {name} ended at k - 1"), self.ended[e]);
+        }
+        add("change dropped by one that first stood at k - 1".into(), self.short);
+        add("image: fourth number k by one at k - 1".into(), self.held);
+        add("image: the same, another first stands later".into(), self.held_with_another);
+        list
+    }
+
+    /// Every count under its name.
+    pub fn counts(&self) -> Vec<(String, u64)> {
+        let mut list = self.recording_counts();
+        list.push((
+            "change recorded from an image of the edition before".into(),
+            self.edition_before,
+        ));
+        list.push(("change kept, only an interruption at k - 1".into(), self.interrupted));
+        list
+    }
+}
+
+/// The record of a change from k, if there is one.
+pub fn change(records: &[u8], k: i64) -> Option<&[u8]> {
+    records.chunks_exact(RECORD).find(|x| x[0] == 4 && four(x, 4) == k)
+}
