@@ -6,16 +6,46 @@ use crate::room::RECORD;
 use crate::rules::four;
 use crate::seen::KINDS;
 
-/// Numbers for the dip and for the swell where there are two.
+/// What a kind of event, dips or swells, has shown about the first value of changes.
+#[derive(Default)]
+pub struct Before {
+    /// Changes dropped since one stands at k − 1, and by nothing else: it ends at k, or goes on.
+    ends: u64,
+    goes_on: u64,
+    /// Changes kept after one that ended at k − 1.
+    ended: u64,
+}
+
+impl Before {
+    /// A change from k that nothing else drops, with where the event stands.
+    pub fn dropped(&mut self, k: i64, stands: &[bool]) {
+        let k = k as usize;
+        self.ends += (stands[k - 1] && !stands[k]) as u64;
+        self.goes_on += (stands[k - 1] && stands[k]) as u64;
+    }
+
+    /// A change from k that is kept.
+    pub fn kept(&mut self, k: i64, stands: &[bool]) {
+        let k = k as usize;
+        self.ended += (stands[k - 2] && !stands[k - 1]) as u64;
+    }
+
+    /// Every count under its name.
+    pub fn counts(&self, name: &str) -> Vec<(String, u64)> {
+        vec![
+            (format!("change dropped by a {name} at k - 1 that ends at k"), self.ends),
+            (format!("change dropped by a {name} at k - 1 that goes on"), self.goes_on),
+            (format!("change kept, a {name} ended at k - 1"), self.ended),
+        ]
+    }
+}
+
+/// What events before the changes of one channel have shown.
 #[derive(Default)]
 pub struct Stands {
-    /// Changes dropped by one that stands at k − 1 and by nothing else: it ends at k, or goes on; and
-    /// those whose one first stood at k − 1.
-    ends: [u64; 2],
-    goes_on: [u64; 2],
+    /// The dip and the swell; and changes dropped by one that first stood at k − 1.
+    before: [Before; 2],
     short: u64,
-    /// Changes kept after one that ended at k − 1.
-    ended: [u64; 2],
     /// Images whose fourth number is k by one that stood at k − 1, and none first stands at k; and
     /// those of them in which another first stands later.
     held: u64,
@@ -33,11 +63,13 @@ impl Stands {
             let dropped = x.dropped(k, m);
             let by_standing = dropped && !x.begins_in(k, m);
             self.short += (by_standing && x.dip_or_swell_begins(k - 1)) as u64;
-            for e in 0..2 {
-                let stands = |i: i64| x.stands(KINDS[e].0 as i64)[i as usize];
-                self.ends[e] += (by_standing && stands(k - 1) && !stands(k)) as u64;
-                self.goes_on[e] += (by_standing && stands(k - 1) && stands(k)) as u64;
-                self.ended[e] += (!dropped && stands(k - 2) && !stands(k - 1)) as u64;
+            for (before, (kind, _)) in self.before.iter_mut().zip(KINDS) {
+                let stands = x.stands(kind as i64);
+                if !dropped {
+                    before.kept(k, stands);
+                } else if by_standing {
+                    before.dropped(k, stands);
+                }
             }
         }
     }
@@ -68,13 +100,9 @@ impl Stands {
 
     /// The counts of recordings under their names.
     pub fn recording_counts(&self) -> Vec<(String, u64)> {
-        let mut list = Vec::new();
+        let kinds = self.before.iter().zip(KINDS);
+        let mut list: Vec<_> = kinds.flat_map(|(before, (_, name))| before.counts(name)).collect();
         let mut add = |name: String, count: u64| list.push((name, count));
-        for (e, (_, name)) in KINDS[..2].iter().enumerate() {
-            add(format!("change dropped by a {name} at k - 1 that ends at k"), self.ends[e]);
-            add(format!("change dropped by a {name} at k - 1 that goes on"), self.goes_on[e]);
-            add(format!("change kept, a {name} ended at k - 1"), self.ended[e]);
-        }
         add("change dropped by one that first stood at k - 1".into(), self.short);
         add("image: fourth number k by one at k - 1".into(), self.held);
         add("image: the same, another first stands later".into(), self.held_with_another);

@@ -1,6 +1,6 @@
 -- Counting record by record, for any test: the count of the first records and that of the rest add up to the count of all. And the day of a value, in two parts.
-use mathlib.Core.Path.{_≡_, refl, sym, _∙_, ap}
-use mathlib.Core.Bool.{Bool, true, false, _&&_}
+use mathlib.Core.Path.{_≡_, sym, _∙_, ap}
+use mathlib.Core.Bool.{Bool, true, _&&_, and-true, and-assoc}
 use mathlib.Core.List.{List}
 use Prim.Native.Nat.{ℕ, _+_, _-_, _*_, _/_, _%_, _≤_, _<_}
 use native.Mathlib.Omega.{arith}
@@ -16,15 +16,6 @@ use Rattle.records.specs.ListLaws.{recordAt, events-next}
 use Rattle.day_count.specs.declared.Tally.{Tally}
 use Rattle.day_count.specs.Days.{howMany, secondCounts, firstCounts, knownKind, kinds}
 use Rattle.day_count.specs.Count.{tallyOf, tallied}
-
--- conjunctions
-and-behind : (a b c : Bool) → ((a && b) && c) ≡ (a && (b && c))
-and-behind true b c = refl
-and-behind false b c = refl
-
-and-all : (a : Bool) → a ≡ (a && true)
-and-all true = refl
-and-all false = refl
 
 -- how many of the first records pass a test
 module _ (test : Event → Bool) (b : List ℕ) where
@@ -72,13 +63,13 @@ module _ (b : List ℕ) where
       → KnownSoFar (i + 1) (known && one)
   known-next i known one h so-far is =
       let more : rest i ≡ (knownKind (eventOf (recordAt b i) .kind) && rest (i + 1)) = ap (λ (es : List Event). all knownKind (kinds es)) (events-next b i _ h) in
-      and-behind known one (rest (i + 1)) ∙ (ap (λ (t : Bool). known && (t && rest (i + 1))) is ∙ (ap (λ (t : Bool). known && t) (sym more) ∙ so-far))
+      and-assoc known one (rest (i + 1)) ∙ (ap (λ (t : Bool). known && (t && rest (i + 1))) is ∙ (ap (λ (t : Bool). known && t) (sym more) ∙ so-far))
 
   pub known-all : (i : ℕ) (known : Bool) → i ≡ length b / recordLength → KnownSoFar i known → known ≡ all knownKind (kinds (eventsOf b))
   known-all i known whole so-far =
       let none : length b / recordLength - i ≡ 0 = omega arith in
       let empty : rest i ≡ true = ap (λ (n : ℕ). all knownKind (kinds (firstEvents n (drop (recordLength * i) b)))) none in
-      and-all known ∙ (ap (λ (t : Bool). known && t) (sym empty) ∙ so-far)
+      sym (and-true known) ∙ (ap (λ (t : Bool). known && t) (sym empty) ∙ so-far)
 
 -- the counts and the kinds together
 module _ (s : Settings) (z day : ℕ) (b : List ℕ) where

@@ -24,7 +24,7 @@ use Rattle.reading_laws.specs.Sentences.{truth, isSteady, NeverTrue, Las
 upTo-newest : (hist : List ℕ) → upTo (length hist) hist ≡ hist
 upTo-newest hist = let e : length hist - length hist ≡ 0 = omega arith in rw e
 
-upTo-older : (i r : ℕ) (older : List ℕ) → i ≤ length older → upTo i (r ∷ older) ≡ upTo i older
+pub upTo-older : {X : Type 0} (i : ℕ) (r : X) (older : List X) → i ≤ length older → upTo i (r ∷ older) ≡ upTo i older
 upTo-older i r older h = let e : suc (length older) - i ≡ suc (length older - i) = omega arith in rw e
 
 both : {b : Bool} → b ≡ true → b ≡ false → ⊥

@@ -16,6 +16,7 @@ use Rattle.reading.specs.Values.{since, upTo}
 use Rattle.reading.specs.Clipping.{anyMarked, clippedFrom, recordOf}
 use Rattle.reading.specs.Changes.{windowSum, gap, firstStand, dipOrSwell, stoodBefore, sumBefore, farthest, greatestDifference, changeEvent}
 use Rattle.reading.specs.Image.{standNumber}
+use Rattle.reading_laws.specs.SignalLaws.{upTo-older}
 use Rattle.threshold.specs.declared.Ended.the-variants.{Nothing, Over}
 use Rattle.threshold.specs.Standing.{listOf}
 use Rattle.window.specs.Window.{windowOf}
@@ -74,7 +75,7 @@ since-grows s k r older late seen =
 module _ (s : Settings) (k r : ℕ) (older : List ℕ) (clipped : Bool) (ms : List ℕ) (beside : length ms ≡ length older)
     (late : windowLength s < k) (seen : k ≤ length older) where
   sum-stays : sumBefore s k (r ∷ older) ≡ sumBefore s k older
-  sum-stays = let e : suc (length older) - (k - 1) ≡ suc (length older - (k - 1)) = omega arith in rw e
+  sum-stays = ap (windowSum s) (upTo-older (k - 1) r older (omega arith))
 
   difference-grows : greatestDifference s k (r ∷ older) ≡
       (if suc (length older) - k <ᵇ windowLength s then greatestDifference s k older

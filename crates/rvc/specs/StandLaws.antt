@@ -1,6 +1,6 @@
 -- The first stand from a value k on, of any history: `here` tells whether a dip or a swell first stands at its newest entry. And the number that a change since
 -- k keeps, which is k where one stands at k − 1: `stood` tells whether one stands at the newest entry.
-use mathlib.Core.Path.{_≡_, refl, sym, _∙_}
+use mathlib.Core.Path.{_≡_, refl, sym, _∙_, ap}
 use mathlib.Core.Bool.{Bool, true, false, _&&_, _||_, and-true, and-false}
 use mathlib.Core.List.{List, [], _∷_}
 use Prim.Native.Nat.{ℕ, zero, suc, _+_, _-_, _≤_, _<_}
@@ -9,6 +9,7 @@ use lib.ListN.{length, drop}
 use borrow.Author.Tests.{lt-ltb, le-leb, lt-leb}
 use Rattle.numbers.specs.Notation.{_≤ᵇ_, _<ᵇ_, if_then_else_}
 use Rattle.reading.specs.Values.{upTo}
+use Rattle.reading_laws.specs.SignalLaws.{upTo-older}
 
 module _ {X : Type 0} (here : List X → Bool) (first : ℕ → List X → ℕ) (first-none : (k : ℕ) → first k [] ≡ 0)
     (first-more : (k : ℕ) (r : X) (older : List X) → first k (r ∷ older)
@@ -75,7 +76,7 @@ module _ {X : Type 0} (here : List X → Bool) (first : ℕ → List X → ℕ) 
     kept k hist = if before k hist then k else first k hist
 
     before-stays : (k : ℕ) (r : X) (older : List X) → 0 < k → k ≤ length older → before k (r ∷ older) ≡ before k older
-    before-stays k r older some seen = let e : suc (length older) - (k - 1) ≡ suc (length older - (k - 1)) = omega arith in rw e
+    before-stays k r older some seen = ap stood (upTo-older (k - 1) r older (omega arith))
 
     pub kept-begins : (r : X) (older : List X) → kept (suc (length older)) (r ∷ older) ≡ (if here (r ∷ older) || stood older then suc (length older) else 0)
     kept-begins r older =

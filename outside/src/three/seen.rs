@@ -5,6 +5,7 @@ use super::CHANNELS;
 use crate::program::Text;
 use crate::readings::{begins, Readings as Own, Record};
 use crate::seen::KINDS;
+use crate::stands::Before;
 
 /// What the marks of joint records have shown. Numbers for each kind of record have an unused place 0.
 #[derive(Default)]
@@ -55,19 +56,15 @@ impl Marks {
     }
 }
 
-/// What joint dips and swells that stand before a joint change have shown. Numbers for the dip and for
-/// the swell where there are two.
+/// What joint dips and swells that stand before a joint change have shown.
 #[derive(Default)]
 pub struct Stands {
-    /// Changes dropped by one that stands at k − 1 and by nothing else: it ends at k, or goes on.
-    ends: [u64; 2],
-    goes_on: [u64; 2],
-    /// Those of them that have it by other channels' own than the channels that turn the signal; and
-    /// by no channel's own.
+    /// The dip and the swell, where the other does not stand at k − 1 as well.
+    before: [Before; 2],
+    /// Changes that it drops by other channels' own than the channels that turn the signal; and by no
+    /// channel's own.
     elsewhere: u64,
     no_own: u64,
-    /// Changes kept after one that ended at k − 1.
-    ended: [u64; 2],
 }
 
 impl Stands {
@@ -75,14 +72,15 @@ impl Stands {
     pub fn readings(&mut self, x: &Readings) {
         for (k, m) in x.changes() {
             let dropped = x.dropped(k, m);
-            let begins = x.begins_in(k, m);
-            let stands = |e: usize, i: i64| x.stands(KINDS[e].0 as i64)[i as usize];
-            for e in 0..2 {
-                self.ended[e] += (!dropped && stands(e, k - 2) && !stands(e, k - 1)) as u64;
-                if dropped && !begins && stands(e, k - 1) && !stands(1 - e, k - 1) {
-                    self.ends[e] += !stands(e, k) as u64;
-                    self.goes_on[e] += stands(e, k) as u64;
-                    self.channels(x, KINDS[e].0 as i64, k);
+            let by_standing = dropped && !x.begins_in(k, m);
+            let both = (0..2).all(|e| x.stands(KINDS[e].0 as i64)[k as usize - 1]);
+            for (e, (kind, _)) in KINDS[..2].iter().enumerate() {
+                let stands = x.stands(*kind as i64);
+                if !dropped {
+                    self.before[e].kept(k, stands);
+                } else if by_standing && !both && stands[k as usize - 1] {
+                    self.before[e].dropped(k, stands);
+                    self.channels(x, *kind as i64, k);
                 }
             }
         }
@@ -99,13 +97,9 @@ impl Stands {
 
     /// Every count under its name.
     pub fn counts(&self) -> Vec<(String, u64)> {
-        let mut list = Vec::new();
+        let kinds = self.before.iter().zip(KINDS);
+        let mut list: Vec<_> = kinds.flat_map(|(before, (_, name))| before.counts(name)).collect();
         let mut add = |name: String, count: u64| list.push((name, count));
-        for (e, (_, name)) in KINDS[..2].iter().enumerate() {
-            add(format!("change dropped by a {name} at k - 1 that ends at k"), self.ends[e]);
-            add(format!("change dropped by a {name} at k - 1 that goes on"), self.goes_on[e]);
-            add(format!("change kept, a {name} ended at k - 1"), self.ended[e]);
-        }
         add("change dropped by another channel's event at k - 1".into(), self.elsewhere);
         add("change dropped by no channel's own event at k - 1".into(), self.no_own);
         list
