@@ -32,6 +32,11 @@ static void advance(void)
                         records, sizeof records, reply, sizeof reply);
 }
 
+static void try_block(void)
+{
+    number = pq_try(image[0], image_length, samples, samples_length, records, sizeof records, reply, sizeof reply);
+}
+
 static void count_day(void)
 {
     number = pq_count_day(settings, sizeof settings, records, sizeof records, 0, 0, 0, day_reply, sizeof day_reply);
@@ -85,6 +90,7 @@ int main(void)
         samples[j] = j % 2 ? 0x80 : 0;
     samples_length = sizeof samples;
     tell("advance, 400 half-cycles of the least count", advance, PQ_OK);
+    tell("try, 400 half-cycles of the least count", try_block, PQ_OK);
     /* Levels that change every 3 half-cycles: events of each kind. */
     set(8, 1600);
     begin();
@@ -94,6 +100,7 @@ int main(void)
         samples[2 * j + 1] = 0;
     }
     tell("advance, full of events", advance, PQ_OK);
+    tell("try, full of events", try_block, PQ_OK);
     samples_length = 2 * 8;
     tell("advance, one half-cycle", advance, PQ_OK);
     image_length = 1;

@@ -3,13 +3,13 @@
  * Samples of one voltage channel go in; records of dips, swells, interruptions and rapid voltage
  * changes (IEC 61000-4-30, Edition 3) come out, by the rules in docs/RULES.md. What the channel
  * remembers between two calls lies in an image of 764 bytes, which the host keeps: in memory, in a
- * file, or handed to another meter. The joint events of three phases have no call here
- * (docs/INTEGRATION.md, Three phases).
+ * file, or handed to another meter. What would come of a block can be asked before a channel takes it.
+ * The joint events of three phases have no call here (docs/INTEGRATION.md, Three phases).
  *
  * pq_count_day counts a day's rapid voltage changes among such records, against the caps of a network
  * contract.
  *
- * The three calls answer every input, with 0 or with the number of a refusal, and each ends. They use
+ * The four calls answer every input, with 0 or with the number of a refusal, and each ends. They use
  * the caller's buffers and a few KiB of stack, and nothing else: no allocation, no global state, no
  * input or output. Any number of threads may call them at once, each with its own buffers.
  *
@@ -35,7 +35,7 @@ extern "C" {
 
 /* The version, as three numbers and as a text; in two steps, so that each name becomes its number. */
 #define PQ_VERSION_MAJOR 2
-#define PQ_VERSION_MINOR 2
+#define PQ_VERSION_MINOR 3
 #define PQ_VERSION_PATCH 0
 #define PQ_VERSION PQ_DOTTED(PQ_VERSION_MAJOR, PQ_VERSION_MINOR, PQ_VERSION_PATCH)
 #define PQ_DOTTED(major, minor, patch) PQ_TEXT(major) "." PQ_TEXT(minor) "." PQ_TEXT(patch)
@@ -81,7 +81,8 @@ extern "C" {
 
 enum pq_kind { PQ_DIP = 1, PQ_SWELL = 2, PQ_INTERRUPTION = 3, PQ_CHANGE = 4 };
 
-/* The reply of advance: three numbers of 8 bytes. */
+/* The reply of advance: three numbers of 8 bytes. That of try is what advance would tell; nothing is
+ * taken, and the rest of a block can be tried only on the image after an advance. */
 #define PQ_REPLY_TAKEN 0   /* samples taken, the block's first ones */
 #define PQ_REPLY_WRITTEN 8 /* records written */
 #define PQ_REPLY_WHY 16    /* why no more samples were taken */
@@ -184,6 +185,18 @@ uint32_t pq_advance(const uint8_t *image, size_t image_length,
                     uint8_t *next, size_t next_length,
                     uint8_t *records, size_t records_length,
                     uint8_t *reply, size_t reply_length);
+
+/* Tries a block: what would pq_advance do with it, given `scratch` as its room for records? Writes
+ * - into `scratch` the records that it would write;
+ * - into `reply` what it would tell.
+ * Bytes behind these are left as they were, and there is no next image: the channel stays as it is.
+ * pq_advance with the same image and samples then replies and writes the same bytes, if it is given as
+ * many bytes for records, or room for just the records that were told.
+ * Returns 0, or the first that applies of 8, 9, 10, 11, 12, 13, in this order. */
+uint32_t pq_try(const uint8_t *image, size_t image_length,
+                const uint8_t *samples, size_t samples_length,
+                uint8_t *scratch, size_t scratch_length,
+                uint8_t *reply, size_t reply_length);
 
 /* Counts the rapid voltage changes that start on one day, among records made under these settings,
  * 20 bytes each, in any order. Dips, swells and interruptions are passed over. One count is of second

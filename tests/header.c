@@ -169,9 +169,9 @@ static void check_change(void)
 static void check_lengths(void)
 {
     IS(PQ_VERSION_MAJOR, 2);
-    IS(PQ_VERSION_MINOR, 2);
+    IS(PQ_VERSION_MINOR, 3);
     IS(PQ_VERSION_PATCH, 0);
-    same_text("PQ_VERSION", "2.2.0", PQ_VERSION);
+    same_text("PQ_VERSION", "2.3.0", PQ_VERSION);
     IS(PQ_SETTINGS_SIZE, 36);
     IS(PQ_IMAGE_SIZE, 764);
     IS(PQ_SAMPLE_SIZE, 2);
@@ -334,6 +334,66 @@ static void check_refused_calls(void)
     same("odd samples", PQ_REFUSED_ODD_SAMPLES, answer(PQ_IMAGE_COUNT, 0, 764, 1, 764, 24));
     same("little room for the image", PQ_REFUSED_IMAGE_ROOM, answer(PQ_IMAGE_COUNT, 0, 764, 2, 763, 24));
     same("little room for the reply", PQ_REFUSED_REPLY_ROOM, answer(PQ_IMAGE_COUNT, 0, 764, 2, 764, 23));
+}
+
+/* What a trial answers to an image with one number changed, and to these lengths. */
+static uint32_t trial(int place, uint32_t number, size_t image_length, size_t samples_length, size_t reply_length)
+{
+    uint8_t image[PQ_IMAGE_SIZE + 1] = {0}, samples[PQ_SAMPLE_SIZE] = {0}, reply[PQ_REPLY_SIZE];
+    begin(50);
+    memcpy(image, images[0], PQ_IMAGE_SIZE);
+    pq_put_u32(image + place, number);
+    return pq_try(image, image_length, samples, samples_length, records[0], 0, reply, reply_length);
+}
+
+static void check_refused_trials(void)
+{
+    same("a trial", PQ_OK, trial(PQ_IMAGE_COUNT, 0, 764, 2, 24));
+    same("short image, tried", PQ_REFUSED_IMAGE_LENGTH, trial(PQ_IMAGE_COUNT, 0, 763, 1, 23));
+    same("another table, tried", PQ_REFUSED_IMAGE_TABLE, trial(0, 0, 764, 1, 23));
+    same("other settings, tried", PQ_REFUSED_IMAGE_SETTINGS, trial(PQ_IMAGE_SETTINGS, 7, 764, 1, 23));
+    same("another body, tried", PQ_REFUSED_IMAGE_BODY, trial(PQ_IMAGE_COUNT, 8, 764, 1, 23));
+    same("odd samples, tried", PQ_REFUSED_ODD_SAMPLES, trial(PQ_IMAGE_COUNT, 0, 764, 1, 23));
+    same("little room for a trial's reply", PQ_REFUSED_REPLY_ROOM, trial(PQ_IMAGE_COUNT, 0, 764, 2, 23));
+}
+
+/* Tries the samples of the worked example from a fresh image, with so much room; the buffers are filled with
+ * 0x5a before. Then an advance with as much room must reply and write the same; and, in case a call kept
+ * something, leave the image of an advance before the trial. */
+static void same_trial(size_t room, uint64_t taken, uint64_t told, uint64_t why)
+{
+    uint8_t samples[64 * PQ_SAMPLE_SIZE], before[PQ_IMAGE_SIZE], next[2][PQ_IMAGE_SIZE];
+    uint8_t scratch[2][2 * PQ_RECORD_SIZE], reply[2][PQ_REPLY_SIZE + 1];
+    for (int j = 0; j < 64; j++)
+        put_sample(samples + PQ_SAMPLE_SIZE * j, j / 8 == 3 || j / 8 == 4 ? 50 : 100);
+    begin(50);
+    memcpy(before, images[0], PQ_IMAGE_SIZE);
+    memset(scratch, 0x5a, sizeof scratch);
+    memset(reply, 0x5a, sizeof reply);
+    same("advance, untried", PQ_OK, pq_advance(images[0], PQ_IMAGE_SIZE, samples, sizeof samples, next[0], PQ_IMAGE_SIZE,
+                                               scratch[1], room, reply[1], sizeof reply[1]));
+    memset(scratch[1], 0x5a, sizeof scratch[1]);
+    memset(reply[1], 0x5a, sizeof reply[1]);
+    same("try", PQ_OK, pq_try(images[0], PQ_IMAGE_SIZE, samples, sizeof samples, scratch[0], room, reply[0], sizeof reply[0]));
+    same_bytes("the image of a trial", before, images[0], PQ_IMAGE_SIZE);
+    same("tried: taken", taken, pq_get_u64(reply[0] + PQ_REPLY_TAKEN));
+    same("tried: written", told, pq_get_u64(reply[0] + PQ_REPLY_WRITTEN));
+    same("tried: why", why, pq_get_u64(reply[0] + PQ_REPLY_WHY));
+    same("behind a trial's reply", 0x5a, reply[0][PQ_REPLY_SIZE]);
+    same("behind a trial's records", 0x5a, scratch[0][PQ_RECORD_SIZE * told]);
+    same("advance, tried", PQ_OK, pq_advance(images[0], PQ_IMAGE_SIZE, samples, sizeof samples, next[1], PQ_IMAGE_SIZE,
+                                             scratch[1], room, reply[1], sizeof reply[1]));
+    same_bytes("the reply after a trial", reply[0], reply[1], sizeof reply[0]);
+    same_bytes("the records after a trial", scratch[0], scratch[1], sizeof scratch[0]);
+    same_bytes("the image after a trial", next[0], next[1], PQ_IMAGE_SIZE);
+}
+
+static void check_trials(void)
+{
+    same_trial(0, 55, 0, PQ_RECORDS_FULL);
+    same_trial(PQ_RECORD_SIZE - 1, 55, 0, PQ_RECORDS_FULL);
+    same_trial(PQ_RECORD_SIZE, 64, 1, PQ_ALL_TAKEN);
+    same_trial(PQ_RECORD_SIZE + 5, 64, 1, PQ_ALL_TAKEN);
 }
 
 /* A record of the bytes 0, 1, 2, .. */
@@ -795,6 +855,8 @@ int main(void)
     check_record();
     check_refused_settings();
     check_refused_calls();
+    check_trials();
+    check_refused_trials();
     check_events();
     check_change();
     check_day();

@@ -331,8 +331,8 @@ for compiler in "gcc -std=c99 -x c" "clang -std=c99 -x c" "g++ -std=c++17 -Wold-
     echo "same: include/pq.h by ${compiler%% -x*}"
 done
 
-# The library defines the three calls and needs three functions of a C library.
-nm -g "$LIBRARY" | awk 'NF > 1 && !/ (T pq_(begin|advance|count_day)|U mem(cpy|move|set))$/ { print; other = 1 } END { exit other }'
+# The library defines the four calls and needs three functions of a C library.
+nm -g "$LIBRARY" | awk 'NF > 1 && !/ (T pq_(begin|advance|try|count_day)|U mem(cpy|move|set))$/ { print; other = 1 } END { exit other }'
 echo "same: names of the library"
 size "$LIBRARY" | awk 'NR > 1 && $2 + $3 > 0 { print "data: " $0; data = 1 } END { exit data }'
 echo "same: the library has no data of its own"
@@ -393,6 +393,22 @@ for block in 1 7 64 4999; do
 END
 done
 [ "$(wc -l <"$work/got")" = 121 ] || { echo "different: the records behind the values' end"; exit 1; }
+
+# Its code that asks for room: three channels, the busy example from three places on, share a memory of a few records, in blocks of some lengths; where a block
+# finds no room the records are taken away.
+gcc -std=c99 -Wall -Wextra -pedantic -Wconversion -Werror -I../include -I"$work" ../tests/shared.c "$LIBRARY" -o "$work/shared"
+for channel in 0 1 2; do
+    { head -c 36 busy.bin; tail -c "+$((36 + 16 * 100 * channel + 1))" busy.bin; } >"$work/busy $channel.bin"
+done
+for records in 4 7 100; do
+    for block in 1 64 4999; do
+        "$work/shared" $block $records "$work"/busy\ [012].bin >"$work/got"
+        for channel in 0 1 2; do
+            same "the code in docs/INTEGRATION.md: channel $channel of three, room for $records, $block samples at a time" \
+                <("$OUT/log" <"$work/busy $channel.bin" | stored) <(sed -n "s/^$channel //p" "$work/got")
+        done
+    done
+done
 
 # Its count of a day, of records given as lines: the crusher's, on both sides of a midnight, on the limits of 3 % and 5 %, at the cap and over it; at 60 Hz, too.
 gcc -std=c99 -Wall -Wextra -pedantic -Wconversion -Werror -I../include -I"$work" ../tests/contract.c "$LIBRARY" -o "$work/contract"

@@ -3,50 +3,56 @@
 //! recording, by the stepper. The form of the input stands in the head of the program's source.
 
 use crate::arguments::Arguments;
-use crate::engineer::{Answer, Call, Engineer, Fed, Looked};
+use crate::engineer::{Call, Engineer, Fed, Looked};
 use crate::images::{self, Fields};
-use crate::lists::next_call;
+use crate::lists::{after_trial, next_call};
 use crate::marks::Marks;
 use crate::programs::{pieces, written};
 use crate::readings::{energy, has_clipped};
 use crate::rng::{one_of, Rng};
 use crate::room::RECORD;
-use crate::rules::{self, settings_bytes, Settings, IMAGE};
-use crate::seen::tell;
+use crate::rules::{self, settings_bytes, Settings, IMAGE, Q};
+use crate::seen::{tell, Told, KINDS};
 use crate::stands::Stands;
+use crate::trials::InLists;
 use crate::{clips, stepper, waves};
 use std::process::exit;
 
 /// The most samples that follow an item, and the saves that the program keeps.
 const MOST_SAMPLES: usize = 32_767;
-const PLACES: usize = 16;
+pub const PLACES: usize = 16;
 /// The longest record buffer: enough for most blocks, and not too much to print.
 const ROOM: usize = 400;
 /// The lists that the gate runs the program on in one go, by their numbers under a seed: together
 /// they have everything that is counted.
 const FILES_SEED: u64 = 1;
-const FILES_LISTS: [u64; 14] =
-    [849, 2010, 3722, 4790, 7068, 7911, 8803, 9608, 9853, 9934, 9964, 9979, 9981, 9990];
+const FILES_LISTS: [u64; 20] = [
+    42, 229, 260, 628, 1730, 11889, 13059, 56980, 68345, 69618, 75432, 88845, 120540, 124731,
+    149916, 151403, 151606, 158724, 162251, 199736,
+];
 
 /// The kinds of item, in the program's numbers.
-const START: u8 = 0;
-const FEED: u8 = 1;
-const LOOK: u8 = 2;
-const SAVE: u8 = 3;
-const RESTORE_SAVE: u8 = 4;
-const RESTORE_BYTES: u8 = 5;
-const GATHER: u8 = 6;
+pub const START: u8 = 0;
+pub const FEED: u8 = 1;
+pub const LOOK: u8 = 2;
+pub const SAVE: u8 = 3;
+pub const RESTORE_SAVE: u8 = 4;
+pub const RESTORE_BYTES: u8 = 5;
+pub const GATHER: u8 = 6;
+pub const TRIAL: u8 = 7;
 
 /// What has been seen.
 #[derive(Default)]
 pub struct Tally {
     /// Items, by kind.
-    items: [u64; 7],
+    items: [u64; 8],
     /// Refusals, 1 to 11.
     refusals: [u64; 12],
-    whys: [u64; 3],
-    /// Records, by kind, 1 to 4, without and with the mark; and the marks of images.
-    records: [[u64; 2]; 5],
+    /// What feeds have told and written, what trials have, and what else those have shown.
+    fed: Told,
+    tried: Told,
+    trials: InLists,
+    /// The marks of images.
     marks: Marks,
     /// What dips and swells that stand before a change have shown.
     stands: Stands,
@@ -65,9 +71,16 @@ pub struct Tally {
 impl Tally {
     /// Every count under its name.
     pub fn counts(&self) -> Vec<(String, u64)> {
-        let items =
-            ["start", "feed", "look", "save", "restore of a save", "restore of bytes", "gather"];
-        let kinds = ["dip", "swell", "interruption", "rvc"];
+        let items = [
+            "start",
+            "feed",
+            "look",
+            "save",
+            "restore of a save",
+            "restore of bytes",
+            "gather",
+            "trial",
+        ];
         let mut list = vec![("calls".to_string(), self.items.iter().sum())];
         let mut add = |name: String, count: u64| list.push((name, count));
         for (name, count) in items.iter().zip(self.items) {
@@ -76,19 +89,12 @@ impl Tally {
         for number in 1..=11 {
             add(format!("refused {number}"), self.refusals[number]);
         }
-        for (why, count) in self.whys.into_iter().enumerate() {
-            add(format!("why {why}"), count);
-        }
-        for (name, [without, with]) in kinds.iter().zip(&self.records[1..]) {
-            add(format!("record {name}, mark 0"), *without);
-            add(format!("record {name}, mark 1"), *with);
-        }
         add("restores that set back".into(), self.set_back);
         add("restores of accepted bytes".into(), self.accepted);
         for (phase, count) in self.phases.into_iter().enumerate() {
             add(format!("look in phase {phase}"), count);
         }
-        for (name, count) in kinds.iter().zip(self.stand) {
+        for ((_, name), count) in KINDS.iter().zip(self.stand) {
             add(format!("look, {name} stands"), count);
         }
         let halves = ["half in progress", "last half"];
@@ -100,50 +106,61 @@ impl Tally {
         for (name, count) in items.iter().zip(self.skipped) {
             add(format!("skipped: {name}"), count);
         }
+        list.extend(self.fed.counts(""));
+        list.extend(self.tried.counts("trial: "));
+        list.extend(self.trials.counts());
         list.extend(self.marks.image_counts());
         list.extend(self.stands.recording_counts());
         list
     }
 }
 
-/// A save that is kept.
-enum Save {
-    /// The engineer's, by its place among the engineer's saves.
-    Recording(usize),
-    /// The stepper's image.
-    Image(Vec<u8>),
-}
-
 /// What answers the calls.
 struct Measure {
     engineer: Engineer,
     recordings: usize,
-    /// After a restore of accepted bytes: the image that the stepper goes on from.
-    held: Option<Vec<u8>>,
-    /// Each accepted save, and its image.
-    saves: Vec<(Save, Vec<u8>)>,
+    /// The image of what the calls have left.
+    image: Vec<u8>,
+    /// Whether it comes from accepted bytes that were restored, and the stepper goes on from it.
+    held: bool,
+    /// Each accepted save: its place among the engineer's saves, if it is one, and its image.
+    saves: Vec<(Option<usize>, Vec<u8>)>,
 }
 
 impl Measure {
-    fn image(&self) -> Vec<u8> {
-        self.held.clone().unwrap_or_else(|| self.engineer.image())
+    fn of(engineer: Engineer) -> Measure {
+        let image = engineer.image();
+        Measure { engineer, recordings: 0, image, held: false, saves: Vec::new() }
     }
 
     fn feed(&mut self, block: &[i16], room: usize) -> (Fed, Vec<u8>) {
-        let Some(image) = &mut self.held else { return self.engineer.feed(block, room) };
+        if !self.held {
+            let answer = self.engineer.feed(block, room);
+            self.image = self.engineer.image();
+            return answer;
+        }
         let (mut new, mut records, mut reply) = (vec![0; IMAGE], vec![0; room], [0; 24]);
         let samples = waves::bytes(block);
-        assert_eq!(stepper::advance(image, &samples, &mut new, &mut records, &mut reply), 0);
-        *image = new;
-        let [taken, written, why] = [0, 8, 16].map(|at| rules::eight(&reply, at) as u64);
-        records.truncate(RECORD * written as usize);
-        (Fed { taken, written, why }, records)
+        assert_eq!(stepper::advance(&self.image, &samples, &mut new, &mut records, &mut reply), 0);
+        self.image = new;
+        fed(records, reply)
+    }
+
+    fn trial(&self, block: &[i16], room: usize) -> (Fed, Vec<u8>) {
+        if !self.held {
+            return self.engineer.trial(block, room);
+        }
+        let (mut scratch, mut reply) = (vec![0; room], [0; 24]);
+        let samples = waves::bytes(block);
+        assert_eq!(stepper::trial(&self.image, &samples, &mut scratch, &mut reply), 0);
+        fed(scratch, reply)
     }
 
     fn look(&self) -> Looked {
-        match &self.held {
-            Some(image) => Fields::of(image).look(),
-            None => self.engineer.look(),
+        if self.held {
+            Fields::of(&self.image).look()
+        } else {
+            self.engineer.look()
         }
     }
 
@@ -151,38 +168,39 @@ impl Measure {
         if length < IMAGE {
             return Err(7);
         }
-        let image = self.image();
-        let save = if self.held.is_some() {
-            Save::Image(image.clone())
-        } else {
-            let Answer::Save(0, saved) = self.engineer.call(&Call::Save { length }) else {
-                unreachable!()
-            };
-            assert_eq!(saved, image);
+        let place = (!self.held).then_some(self.recordings);
+        if !self.held {
+            assert_eq!(self.engineer.save(length).as_ref(), Ok(&self.image));
             self.recordings += 1;
-            Save::Recording(self.recordings - 1)
-        };
-        self.saves.push((save, image.clone()));
-        Ok(image)
+        }
+        self.saves.push((place, self.image.clone()));
+        Ok(self.image.clone())
     }
 
     fn restore_save(&mut self, name: usize) {
-        self.held = match &self.saves[name].0 {
-            Save::Image(image) => Some(image.clone()),
-            Save::Recording(name) => {
-                self.engineer.call(&Call::RestoreSave { name: *name });
-                None
-            }
-        };
+        let (place, image) = &self.saves[name];
+        self.image = image.clone();
+        self.held = place.is_none();
+        if let Some(name) = *place {
+            self.engineer.call(&Call::RestoreSave { name });
+        }
     }
 
     fn restore_bytes(&mut self, bytes: &[u8]) -> u32 {
         let number = rules::restore(bytes);
         if number == 0 {
-            self.held = Some(bytes.to_vec());
+            self.image = bytes.to_vec();
+            self.held = true;
         }
         number
     }
+}
+
+/// What the stepper told in its reply, and the records that it wrote.
+fn fed(mut records: Vec<u8>, reply: [u8; 24]) -> (Fed, Vec<u8>) {
+    let fed = Fed::of(&reply);
+    records.truncate(RECORD * fed.written as usize);
+    (fed, records)
 }
 
 /// A list: the program's input, and the text that it must print.
@@ -192,7 +210,19 @@ pub struct List {
     pub text: String,
 }
 
-fn hex(bytes: &[u8]) -> String {
+/// The line of a feed or a trial: what it tells, and the buffer as it leaves it.
+pub fn fed_line(name: &str, fed: &Fed, buffer: &str) -> String {
+    format!("{name} {} {} {} {buffer}", fed.taken, fed.written, fed.why)
+}
+
+/// The line of a look.
+pub fn look_line(looked: &Looked) -> String {
+    let Looked { v, r, a, phase, stand } = looked;
+    let [dip, swell, interruption] = stand.map(|x| x as u8);
+    format!("look {v} {r} {a} {phase} {dip} {swell} {interruption}")
+}
+
+pub fn hex(bytes: &[u8]) -> String {
     bytes.iter().map(|x| format!("{x:02x}")).collect()
 }
 
@@ -201,6 +231,44 @@ pub fn buffer(length: usize, fill: u8, written: &[u8]) -> String {
     let mut bytes = vec![fill; length];
     bytes[..written.len()].copy_from_slice(written);
     hex(&bytes)
+}
+
+/// An item: its kind, fill, number and bytes, and the input after it.
+type Item<'a> = (u8, u8, usize, &'a [u8], &'a [u8]);
+
+/// What a program of lists prints on any input: `start` gives who answers, or the refusal, and `item`
+/// the text of a call.
+pub fn printed<A>(
+    mut input: &[u8],
+    start: impl Fn(&[u8]) -> Result<A, u32>,
+    item: impl Fn(&mut A, Item) -> String,
+) -> String {
+    let mut text = String::new();
+    while let Some((START, _, calls, settings, rest)) = next_item(input) {
+        input = rest;
+        let mut answering = match start(settings) {
+            Ok(answering) => answering,
+            Err(number) => {
+                text += &format!("refused {number}\n");
+                continue;
+            }
+        };
+        text += "start\n";
+        for _ in 0..calls {
+            let Some(next) = next_item(input) else { return text };
+            input = next.4;
+            text += &item(&mut answering, next);
+        }
+    }
+    text
+}
+
+/// One item; none where the input has no whole one.
+fn next_item(input: &[u8]) -> Option<Item<'_>> {
+    let (&[kind, fill, a, b, c, d], rest) = input.split_first_chunk::<6>()?;
+    let (number, length) = (u16::from_le_bytes([a, b]), u16::from_le_bytes([c, d]));
+    let (bytes, rest) = rest.split_at_checked(length as usize)?;
+    Some((kind, fill, number as usize, bytes, rest))
 }
 
 impl List {
@@ -227,6 +295,26 @@ impl List {
         }
     }
 
+    /// The same list without its trials.
+    pub fn without_trials(&self) -> List {
+        let mut list = List::default();
+        let (mut input, mut trials) = (&self.input[..], 0);
+        while let Some((kind, fill, number, bytes, rest)) = next_item(input) {
+            input = rest;
+            if kind == TRIAL {
+                trials += 1;
+            } else {
+                list.item(kind, fill, number, bytes);
+            }
+        }
+        // The start has the number of calls.
+        let calls = u16::from_le_bytes([self.input[2], self.input[3]]) - trials;
+        list.input[2..4].copy_from_slice(&calls.to_le_bytes());
+        let lines = self.text.split_inclusive('\n');
+        list.text = lines.filter(|line| !line.starts_with("trial ")).collect();
+        list
+    }
+
     /// Another list behind this one.
     pub fn append(&mut self, list: List) {
         self.input.extend(list.input);
@@ -248,67 +336,77 @@ impl List {
         self.input.extend(bytes);
     }
 
-    /// A call, and the answer to it. What feed took is taken out of the samples to come.
+    /// A start that is not refused, with so many calls, and what answers them.
+    fn start(&mut self, s: &Settings, calls: usize, fill: u8, seen: &mut Tally) -> Measure {
+        let settings = settings_bytes(s);
+        self.item(START, fill, calls, &settings);
+        self.text += "start\n";
+        seen.items[START as usize] += 1;
+        seen.trials.apart();
+        Measure::of(Engineer::start(&settings).unwrap())
+    }
+
+    /// A call, and the answer to it; gives how many samples feed took.
     fn call(&mut self, call: Call, fill: u8, measure: &mut Measure, seen: &mut Tally) -> usize {
-        let (kind, taken, line) = match call {
-            Call::Feed { mut block, room } => {
-                block.truncate(MOST_SAMPLES);
-                let room = room.min(ROOM);
-                let mut bytes = waves::bytes(&block);
+        let (mut taken, mut told) = (0, None);
+        let image = measure.image.clone();
+        let (kind, line) = match &call {
+            Call::Feed { block, room } | Call::Trial { block, room } => {
+                let mut bytes = waves::bytes(block);
                 // A last odd byte is no sample.
                 bytes.extend((fill % 8 == 0).then_some(fill));
-                self.item(FEED, fill, room, &bytes);
-                let (fed, records) = measure.feed(&block, room);
-                seen.whys[fed.why as usize] += 1;
-                for x in records.chunks(RECORD) {
-                    seen.records[x[0] as usize][x[1] as usize] += 1;
+                let (kind, (fed, records), shown) = if let Call::Feed { .. } = call {
+                    (FEED, measure.feed(block, *room), &mut seen.fed)
+                } else {
+                    (TRIAL, measure.trial(block, *room), &mut seen.tried)
+                };
+                self.item(kind, fill, *room, &bytes);
+                shown.add(fed.why, &records);
+                told = Some(fed);
+                if kind == FEED {
+                    taken = fed.taken as usize;
                 }
-                let told = format!("feed {} {} {}", fed.taken, fed.written, fed.why);
-                let line = format!("{told} {}", buffer(room, fill, &records));
-                (FEED, fed.taken as usize, line)
+                (kind, fed_line(call.name(), &fed, &buffer(*room, fill, &records)))
             }
             Call::Look => {
                 self.item(LOOK, fill, 0, &[]);
-                let Looked { v, r, a, phase, stand } = measure.look();
-                seen.phases[phase as usize] += 1;
-                (0..3).filter(|&e| stand[e]).for_each(|e| seen.stand[e] += 1);
-                let [dip, swell, interruption] = stand.map(|x| x as u8);
-                let line = format!("look {v} {r} {a} {phase} {dip} {swell} {interruption}");
-                (LOOK, 0, line)
+                let looked = measure.look();
+                seen.phases[looked.phase as usize] += 1;
+                (0..3).filter(|&e| looked.stand[e]).for_each(|e| seen.stand[e] += 1);
+                (LOOK, look_line(&looked))
             }
             Call::Save { length } => {
-                self.item(SAVE, fill, length, &[]);
-                let (number, image) = match measure.save(length) {
+                self.item(SAVE, fill, *length, &[]);
+                let (number, image) = match measure.save(*length) {
                     Ok(image) => (0, image),
                     Err(number) => (number, Vec::new()),
                 };
                 if number == 0 {
                     let fields = Fields::of(&image);
                     seen.marks.image(&fields);
-                    if measure.held.is_none() {
+                    if !measure.held {
                         seen.stands.image(&measure.engineer.readings(), &fields);
                     }
                 }
                 seen.refusals[number as usize] += 1;
-                (SAVE, 0, format!("save {number} {}", buffer(length, fill, &image)))
+                (SAVE, format!("save {number} {}", buffer(*length, fill, &image)))
             }
             Call::RestoreSave { name } => {
-                self.item(RESTORE_SAVE, fill, name, &[]);
-                if measure.saves[name].1 != measure.image() {
-                    seen.set_back += 1;
-                }
-                measure.restore_save(name);
-                (RESTORE_SAVE, 0, "restore 0".into())
+                self.item(RESTORE_SAVE, fill, *name, &[]);
+                measure.restore_save(*name);
+                seen.set_back += (measure.image != image) as u64;
+                (RESTORE_SAVE, "restore 0".into())
             }
             Call::RestoreBytes { bytes } => {
-                self.item(RESTORE_BYTES, fill, 0, &bytes);
-                let number = measure.restore_bytes(&bytes);
+                self.item(RESTORE_BYTES, fill, 0, bytes);
+                let number = measure.restore_bytes(bytes);
                 seen.refusals[number as usize] += 1;
                 seen.accepted += (number == 0) as u64;
-                (RESTORE_BYTES, 0, format!("restore {number}"))
+                (RESTORE_BYTES, format!("restore {number}"))
             }
         };
         seen.items[kind as usize] += 1;
+        seen.trials.call(&call, told, &image);
         self.text += &line;
         self.text.push('\n');
         taken
@@ -318,13 +416,14 @@ impl List {
     fn skipped(&mut self, rng: &mut Rng, saves: usize, seen: &mut Tally) {
         let which = rng.range(0, 2);
         seen.skipped[which as usize] += 1;
+        seen.trials.apart();
         match which {
             0 => {
                 self.item(RESTORE_SAVE, 0, saves + rng.range(0, 20) as usize, &[]);
                 self.text += "none\n";
             }
             1 => self.item(GATHER, 0, one_of(&[0, 257, 65_535], rng), &[1; 40]),
-            _ => self.item(rng.range(7, 255) as u8, 0, 7, &[7; 7]),
+            _ => self.item(rng.range(8, 255) as u8, 0, 7, &[7; 7]),
         }
     }
 
@@ -332,6 +431,7 @@ impl List {
     fn gather(&mut self, samples: &[i16], m: usize, seen: &mut Tally) {
         self.item(GATHER, 0, m, &waves::bytes(samples));
         seen.items[GATHER as usize] += 1;
+        seen.trials.apart();
         let halves = samples.len() / m;
         let rest = &samples[halves * m..];
         let last = if halves > 0 { &samples[(halves - 1) * m..halves * m] } else { &[] };
@@ -354,30 +454,21 @@ pub fn list(rng: &mut Rng, seen: &mut Tally) -> List {
     };
     let fill = rng.next() as u8;
     let mut list = List::default();
-    seen.items[START as usize] += 1;
-    match Engineer::start(&bytes) {
+    match rules::settings(&bytes) {
         Err(number) => {
             list.item(START, fill, 0, &bytes);
+            seen.items[START as usize] += 1;
             seen.refusals[number as usize] += 1;
             list.text = format!("refused {number}\n");
         }
-        Ok(engineer) => {
+        Ok(s) => {
             let calls = rng.range(1, 25);
-            list.item(START, fill, calls as usize + 2, &bytes);
-            list.text = "start\n".into();
-            let mut measure = Measure { engineer, recordings: 0, held: None, saves: Vec::new() };
-            make_calls(
-                rng,
-                &rules::settings(&bytes).unwrap(),
-                calls,
-                &mut list,
-                &mut measure,
-                seen,
-            );
+            let mut measure = list.start(&s, calls as usize + 2, fill, seen);
+            make_calls(rng, &s, calls, &mut list, &mut measure, seen);
             // What the list leaves: the readings, and every byte of the image.
             list.call(Call::Look, fill, &mut measure, seen);
             list.call(Call::Save { length: IMAGE }, fill, &mut measure, seen);
-            if measure.held.is_none() {
+            if !measure.held {
                 assert_eq!(measure.engineer.written(), measure.engineer.due());
                 seen.stands.recording(&measure.engineer.readings());
             }
@@ -386,9 +477,28 @@ pub fn list(rng: &mut Rng, seen: &mut Tally) -> List {
     list
 }
 
+/// The samples of the event program's example.
+pub fn example_samples() -> Vec<i16> {
+    [[100; 24].to_vec(), [50; 16].to_vec(), [100; 24].to_vec()].concat()
+}
+
+/// The event program's example: tried with no room and with more than enough, and fed with room for
+/// its record.
+fn example(seen: &mut Tally) -> List {
+    let block = example_samples();
+    let trial = |room| Call::Trial { block: block.clone(), room };
+    let calls = [trial(0), trial(25), Call::Feed { block: block.clone(), room: 20 }, Call::Look];
+    let mut list = List::default();
+    let mut measure = list.start(&Q, calls.len(), 0, seen);
+    for call in calls {
+        list.call(call, 0xa5, &mut measure, seen);
+    }
+    list
+}
+
 /// The lists that the gate runs the program on, one behind the other.
 pub fn files(seen: &mut Tally) -> List {
-    let mut all = List::default();
+    let mut all = example(seen);
     for number in FILES_LISTS {
         all.append(list(&mut Rng::of_case(FILES_SEED, number), seen));
     }
@@ -411,6 +521,7 @@ fn make_calls(
     let mut source = clips::wave(rng, s, halves);
     // In some lists, bytes that no save gives and that restore accepts.
     let strange = rng.chance(25);
+    let mut last = None;
     for j in 0..calls {
         if source.is_empty() && rng.chance(40) {
             let halves = rng.range(1, s.n);
@@ -434,12 +545,18 @@ fn make_calls(
         let call = if strange && rng.chance(15) {
             Call::RestoreBytes { bytes: images::accepted(rng, *s) }
         } else {
-            next_call(rng, s, &source, saves, &measure.image(), calls - j)
+            after_trial(rng, last)
+                .unwrap_or_else(|| next_call(rng, s, &source, saves, &measure.image, calls - j))
         };
-        let call = match call {
+        let mut call = match call {
             Call::RestoreBytes { bytes } if !strange && rules::restore(&bytes) == 0 => Call::Look,
             other => other,
         };
+        if let Call::Feed { block, room } | Call::Trial { block, room } = &mut call {
+            block.truncate(MOST_SAMPLES);
+            *room = ROOM.min(*room);
+        }
+        last = Some(call.clone());
         let taken = list.call(call, fill, measure, seen);
         source.drain(..taken);
     }

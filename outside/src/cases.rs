@@ -6,7 +6,7 @@ use crate::images::{self, Fields};
 use crate::logger::Logger;
 use crate::readings::{Readings, Record};
 use crate::rng::{one_of, Rng};
-use crate::rules::{self, settings_bytes, Settings, IMAGE, RECORD};
+use crate::rules::{self, settings_bytes, Settings, IMAGE};
 use crate::{clips, pairs, stands, waves};
 
 impl Run<'_> {
@@ -106,12 +106,13 @@ impl Run<'_> {
                 reply: 24 + one_of(&[0, 0, 1, 40], rng),
             };
             let fill = rng.next() as u8;
-            let x = self.advance(&image, &left[..2 * length as usize], lengths, fill)?;
+            let block = &left[..2 * length as usize];
+            let x = self.advance_and_try(rng, &image, block, lengths, fill)?;
             self.seen.built += 1;
             demand(x.number == 0, || format!("an accepted image gives {}", x.number))?;
             demand(rules::restore(&x.image[..IMAGE]) == 0, || "the new image is refused".into())?;
             left = &left[2 * x.reply(0) as usize..];
-            written.extend(&x.records[..RECORD * x.reply(1) as usize]);
+            written.extend(x.written());
             image = x.image[..IMAGE].to_vec();
             self.kept_image(&image)?;
         }
@@ -129,7 +130,7 @@ impl Run<'_> {
         demand(looked == expected, || format!("look gives {looked:?}, not {expected:?}"))
     }
 
-    /// Advances with one thing, or several, that must be refused.
+    /// Advances and trials with one thing, or several, that must be refused.
     fn damaged_case(&mut self, rng: &mut Rng) -> Outcome<()> {
         let s = waves::settings(rng);
         let good = match rng.range(0, 2) {
@@ -156,20 +157,18 @@ impl Run<'_> {
                 reply: one_of(&[24, 24, 24, 25, 23, 0, 8], rng),
             };
             let fill = rng.next() as u8;
-            let left = self.advance(&image, &samples, lengths, fill)?;
-            // The order 8 to 11, 12, 7, 13.
-            let expected = if number > 0 {
-                number
-            } else if samples.len() % 2 == 1 {
-                12
-            } else if lengths.image < IMAGE {
-                7
-            } else if lengths.reply < 24 {
-                13
-            } else {
-                0
-            };
-            demand(left.number == expected, || format!("number {}, not {expected}", left.number))?;
+            let advanced = self.advance(&image, &samples, lengths, fill)?.number;
+            let tried = self.trial(&image, &samples, lengths, fill)?.number;
+            // The order 8 to 11, 12, 7, 13. A trial has no new image, and no 7.
+            let image = (number, number > 0);
+            let odd = (12, samples.len() % 2 == 1);
+            let (room, reply) = ((7, lengths.image < IMAGE), (13, lengths.reply < 24));
+            let orders =
+                [(advanced, vec![image, odd, room, reply]), (tried, vec![image, odd, reply])];
+            for (number, order) in orders {
+                let expected = order.iter().find(|x| x.1).map_or(0, |x| x.0);
+                demand(number == expected, || format!("number {number}, not {expected}"))?;
+            }
         }
         Ok(())
     }

@@ -3,12 +3,20 @@
 use crate::readings::{Readings, Record};
 use crate::rules::{self, Settings, END, IMAGE, RECORD};
 
-/// What a feed tells.
+/// What a feed tells, and a trial.
 #[derive(Clone, Copy, Debug, PartialEq, Eq)]
 pub struct Fed {
     pub taken: u64,
     pub written: u64,
     pub why: u64,
+}
+
+impl Fed {
+    /// As a reply tells it.
+    pub fn of(reply: &[u8]) -> Fed {
+        let [taken, written, why] = [0, 8, 16].map(|at| rules::eight(reply, at) as u64);
+        Fed { taken, written, why }
+    }
 }
 
 /// What a look tells.
@@ -25,19 +33,52 @@ pub struct Looked {
 #[derive(Clone, Debug)]
 pub enum Call {
     Feed { block: Vec<i16>, room: usize },
+    Trial { block: Vec<i16>, room: usize },
     Look,
     Save { length: usize },
     RestoreSave { name: usize },
     RestoreBytes { bytes: Vec<u8> },
 }
 
+impl Call {
+    pub fn name(&self) -> &'static str {
+        match self {
+            Call::Feed { .. } => "feed",
+            Call::Trial { .. } => "trial",
+            Call::Look => "look",
+            Call::Save { .. } => "save",
+            Call::RestoreSave { .. } => "restore of a save",
+            Call::RestoreBytes { .. } => "restore of bytes",
+        }
+    }
+
+    /// The block of a feed or a trial, and the room.
+    pub fn block(&self) -> Option<(&[i16], usize)> {
+        match self {
+            Call::Feed { block, room } | Call::Trial { block, room } => Some((block, *room)),
+            _ => None,
+        }
+    }
+}
+
 /// The answer to a call, with the bytes that it writes.
 #[derive(Clone, Debug, PartialEq, Eq)]
 pub enum Answer {
     Feed(Fed, Vec<u8>),
+    Trial(Fed, Vec<u8>),
     Look(Looked),
     Save(u32, Vec<u8>),
     Restore(u32),
+}
+
+impl Answer {
+    /// What a feed or a trial tells, and the records that it writes.
+    pub fn told(&self) -> Option<(Fed, &[u8])> {
+        match self {
+            Answer::Feed(fed, records) | Answer::Trial(fed, records) => Some((*fed, records)),
+            _ => None,
+        }
+    }
 }
 
 struct Copy {
@@ -66,6 +107,10 @@ impl Engineer {
                 let (fed, bytes) = self.feed(block, *room);
                 Answer::Feed(fed, bytes)
             }
+            Call::Trial { block, room } => {
+                let (fed, bytes) = self.trial(block, *room);
+                Answer::Trial(fed, bytes)
+            }
             Call::Look => Answer::Look(self.look()),
             Call::Save { length } => match self.save(*length) {
                 Ok(bytes) => Answer::Save(0, bytes),
@@ -89,8 +134,17 @@ impl Engineer {
         (samples as i64 / self.s.m - 1).max(0)
     }
 
-    /// Feed; `room` is the number of lent bytes.
+    /// Feed; `room` is the number of lent bytes. It tells and writes what a trial does, and that is
+    /// kept.
     pub fn feed(&mut self, block: &[i16], room: usize) -> (Fed, Vec<u8>) {
+        let (fed, written) = self.trial(block, room);
+        self.recording.extend(&block[..fed.taken as usize]);
+        self.written.extend(&written);
+        (fed, written)
+    }
+
+    /// Trial; `room` is the number of lent bytes. Nothing is kept.
+    pub fn trial(&self, block: &[i16], room: usize) -> (Fed, Vec<u8>) {
         let room = room / RECORD;
         let old = self.recording.len();
         let v = self.values_of(old);
@@ -116,8 +170,6 @@ impl Engineer {
         } else {
             1
         };
-        self.recording.extend(&block[..taken]);
-        self.written.extend(&written);
         let count = (written.len() / RECORD) as u64;
         (Fed { taken: taken as u64, written: count, why }, written)
     }

@@ -22,6 +22,17 @@ mod library {
             reply_length: usize,
         ) -> u32;
 
+        pub fn pq_try(
+            image: *const u8,
+            image_length: usize,
+            samples: *const u8,
+            samples_length: usize,
+            scratch: *mut u8,
+            scratch_length: usize,
+            reply: *mut u8,
+            reply_length: usize,
+        ) -> u32;
+
         pub fn pq_count_day(
             settings: *const u8,
             settings_length: usize,
@@ -62,6 +73,24 @@ pub fn advance(
             new_image.len(),
             records.as_mut_ptr(),
             records.len(),
+            reply.as_mut_ptr(),
+            reply.len(),
+        )
+    }
+}
+
+/// The proved trial.
+pub fn trial(image: &[u8], samples: &[u8], scratch: &mut [u8], reply: &mut [u8]) -> u32 {
+    // SAFETY: all slices are valid for their lengths during the call; those written are borrowed
+    // alone, so none overlaps another.
+    unsafe {
+        library::pq_try(
+            image.as_ptr(),
+            image.len(),
+            samples.as_ptr(),
+            samples.len(),
+            scratch.as_mut_ptr(),
+            scratch.len(),
             reply.as_mut_ptr(),
             reply.len(),
         )

@@ -1,32 +1,45 @@
-//! Begin and advance on every implementation at once, in guarded buffers.
+//! Begin, advance and trial on every implementation at once, in guarded buffers.
 
 use crate::engineer::Engineer;
 use crate::guard::Guarded;
+use crate::rng::Rng;
 use crate::rules::{self, IMAGE, RECORD};
 use crate::seen::Seen;
 use crate::{host, stepper};
 
 type Begin = fn(&[u8], &mut [u8]) -> u32;
 type Advance = fn(&[u8], &[u8], &mut [u8], &mut [u8], &mut [u8]) -> u32;
+type Trial = fn(&[u8], &[u8], &mut [u8], &mut [u8]) -> u32;
 
-/// An implementation of begin and advance.
+/// An implementation of begin, advance and trial.
 pub struct Host {
     pub name: &'static str,
     pub begin: Begin,
     pub advance: Advance,
+    pub trial: Trial,
 }
 
 /// The stepper, the logger and, with the feature, the proved library.
 pub fn hosts() -> Vec<Host> {
     vec![
-        Host { name: "stepper", begin: stepper::begin, advance: stepper::advance },
-        Host { name: "logger", begin: host::begin, advance: host::advance },
+        Host {
+            name: "stepper",
+            begin: stepper::begin,
+            advance: stepper::advance,
+            trial: stepper::trial,
+        },
+        Host { name: "logger", begin: host::begin, advance: host::advance, trial: host::trial },
         #[cfg(feature = "proved")]
-        Host { name: "proved", begin: crate::ffi::begin, advance: crate::ffi::advance },
+        Host {
+            name: "proved",
+            begin: crate::ffi::begin,
+            advance: crate::ffi::advance,
+            trial: crate::ffi::trial,
+        },
     ]
 }
 
-/// What an advance leaves: the number and every byte of the three buffers.
+/// What an advance leaves: the number and every byte of the three buffers. A trial has no image.
 #[derive(PartialEq, Eq)]
 pub struct Left {
     pub number: u32,
@@ -40,15 +53,32 @@ impl Left {
     pub fn reply(&self, at: usize) -> u64 {
         rules::eight(&self.reply, 8 * at) as u64
     }
+
+    /// The records written, after an accepted call.
+    pub fn written(&self) -> &[u8] {
+        &self.records[..RECORD * self.reply(1) as usize]
+    }
 }
 
-/// Lengths of the buffers lent to advance.
+/// Lengths of the buffers lent to advance. The record buffer is a trial's scratch buffer.
 #[derive(Clone, Copy, Debug)]
 pub struct Lengths {
     pub image: usize,
     pub records: usize,
     pub reply: usize,
 }
+
+/// The buffers that are lent to be written: for the new image, the records, the reply.
+fn lent(l: Lengths, fill: u8) -> [Guarded; 3] {
+    [
+        Guarded::filled(l.image, fill),
+        Guarded::filled(l.records, fill ^ 0x55),
+        Guarded::filled(l.reply, fill ^ 0x33),
+    ]
+}
+
+/// A call with an image and samples, and what it is lent.
+type OnImage = fn(&Host, [&[u8]; 2], [&mut [u8]; 3]) -> u32;
 
 /// What a check gives: a difference is told in words.
 pub type Outcome<T> = Result<T, String>;
@@ -111,36 +141,86 @@ impl Run<'_> {
         Ok(left)
     }
 
-    /// Advance on every host, in guarded buffers: all must leave the same.
+    /// Advance on every host: all must leave the same.
     pub fn advance(&mut self, image: &[u8], samples: &[u8], l: Lengths, fill: u8) -> Outcome<Left> {
         self.seen.call("advance");
+        let call: OnImage = |host, [image, samples], [new, records, reply]| {
+            (host.advance)(image, samples, new, records, reply)
+        };
+        let left = self.on_image("advance", call, [image, samples], l, fill)?;
+        match left.number {
+            0 => self.seen.fed.add(left.reply(2), left.written()),
+            number => self.seen.advance_refusals[number as usize] += 1,
+        }
+        Ok(left)
+    }
+
+    /// Trial on every host: all must leave the same. It has no new image.
+    pub fn trial(&mut self, image: &[u8], samples: &[u8], l: Lengths, fill: u8) -> Outcome<Left> {
+        self.seen.call("try");
+        let l = Lengths { image: 0, ..l };
+        let call: OnImage = |host, [image, samples], [_, scratch, reply]| {
+            (host.trial)(image, samples, scratch, reply)
+        };
+        let left = self.on_image("trial", call, [image, samples], l, fill)?;
+        self.seen.tries.trial(samples, &l, &left);
+        Ok(left)
+    }
+
+    /// Advance; in some cases also a trial of the same block with a scratch buffer like the record
+    /// buffer, which must leave the same records and reply, and advance again, which must do as before:
+    /// a call that kept something would show.
+    pub fn advance_and_try(
+        &mut self,
+        rng: &mut Rng,
+        image: &[u8],
+        samples: &[u8],
+        l: Lengths,
+        fill: u8,
+    ) -> Outcome<Left> {
+        let left = self.advance(image, samples, l, fill)?;
+        if rng.chance(10) {
+            let tried = self.trial(image, samples, l, fill)?;
+            demand(tried.records == left.records && tried.reply == left.reply, || {
+                let records = first_difference(&tried.records, &left.records);
+                let reply = first_difference(&tried.reply, &left.reply);
+                format!("a trial and advance: records {records}, reply {reply}; {l:?}")
+            })?;
+            let again = self.advance(image, samples, l, fill)?;
+            demand(again == left, || "advance does not do the same after a trial".into())?;
+            self.seen.tries.alike(&left);
+        }
+        Ok(left)
+    }
+
+    /// A call on every host, in guarded buffers: all must leave the same, and change nothing but what
+    /// they are to write.
+    fn on_image(
+        &self,
+        name: &str,
+        call: OnImage,
+        [image, samples]: [&[u8]; 2],
+        l: Lengths,
+        fill: u8,
+    ) -> Outcome<Left> {
         let mut agreed: Option<Left> = None;
         for host in self.hosts {
-            let old = Guarded::new(image);
-            let given = Guarded::new(samples);
-            let mut new = Guarded::filled(l.image, fill);
-            let mut records = Guarded::filled(l.records, fill ^ 0x55);
-            let mut reply = Guarded::filled(l.reply, fill ^ 0x33);
-            let number = (host.advance)(
-                old.get(),
-                given.get(),
-                new.get_mut(),
-                records.get_mut(),
-                reply.get_mut(),
+            let given = [Guarded::new(image), Guarded::new(samples)];
+            let mut lent = lent(l, fill);
+            let number = call(
+                host,
+                given.each_ref().map(Guarded::get),
+                lent.each_mut().map(Guarded::get_mut),
             );
-            let whole = old.get() == image && given.get() == samples;
-            let guards = [&old, &given, &new, &records, &reply].iter().all(|x| x.holds());
-            demand(whole && guards, || format!("advance by {}: bytes outside changed", host.name))?;
-            let left = Left {
-                number,
-                image: new.get().to_vec(),
-                records: records.get().to_vec(),
-                reply: reply.get().to_vec(),
-            };
+            let whole = given[0].get() == image && given[1].get() == samples;
+            let guards = given.iter().chain(&lent).all(|x| x.holds());
+            demand(whole && guards, || format!("{name} by {}: bytes outside changed", host.name))?;
+            let [new, records, reply] = lent.map(|x| x.get().to_vec());
+            let left = Left { number, image: new, records, reply };
             if let Some(agreed) = &agreed {
                 demand(*agreed == left, || {
                     format!(
-                        "advance by {}: numbers {} and {}, image {}, records {}, reply {}; {l:?}",
+                        "{name} by {}: numbers {} and {}, image {}, records {}, reply {}; {l:?}",
                         host.name,
                         agreed.number,
                         left.number,
@@ -156,20 +236,15 @@ impl Run<'_> {
         // How many bytes of each buffer may have changed: none where the call refused.
         let mut used = [0; 3];
         if left.number == 0 {
-            used = [IMAGE, RECORD * left.reply(1) as usize, 24];
-            self.seen.fed(left.reply(2), &left.records[..used[1]]);
+            used = [IMAGE.min(l.image), left.written().len(), 24];
             // With room for four records only V's end can keep a sample out.
             let stuck = left.reply(0) == 0 && left.reply(2) == 1 && l.records >= 4 * RECORD;
             demand(!stuck, || "no sample taken, with room for four records".into())?;
-        } else {
-            self.seen.advance_refusals[left.number as usize] += 1;
         }
         let buffers = [&left.image, &left.records, &left.reply];
-        let fills = [fill, fill ^ 0x55, fill ^ 0x33];
-        for ((buffer, fill), used) in buffers.into_iter().zip(fills).zip(used) {
-            let before = Guarded::filled(buffer.len(), fill);
+        for ((buffer, before), used) in buffers.into_iter().zip(lent(l, fill)).zip(used) {
             demand(buffer[used..] == before.get()[used..], || {
-                format!("advance gives {}: a buffer changed after byte {used}", left.number)
+                format!("{name} gives {}: a buffer changed after byte {used}", left.number)
             })?;
         }
         Ok(left)

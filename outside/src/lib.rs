@@ -32,6 +32,7 @@ pub mod ffi;
 
 // What the binaries share: random cases and how they are compared.
 pub mod arguments;
+pub mod by_logger;
 pub mod call_lists;
 pub mod cases;
 pub mod clips;
@@ -48,4 +49,5 @@ pub mod programs;
 pub mod rng;
 pub mod seen;
 pub mod stands;
+pub mod trials;
 pub mod waves;

@@ -19,7 +19,7 @@ struct List {
 }
 
 impl Run<'_> {
-    /// A list of calls: the engineer and the logger, and every feed through advance too.
+    /// A list of calls: the engineer and the logger, and every feed and trial through the hosts too.
     pub fn list_case(&mut self, rng: &mut Rng) -> Outcome<()> {
         let (s, mut source) = recording(rng);
         let bytes = settings_bytes(&s);
@@ -33,11 +33,15 @@ impl Run<'_> {
         let calls = rng.range(1, 30);
         // In some lists one more, which takes all the samples that are left.
         let rest = rng.chance(50) as i64;
+        let mut last = None;
+        self.seen.trials.apart();
         for j in 0..calls + rest {
             let images = list.saves.iter().map(|x| &x.0[..]);
             let base = images.last().map_or(Fields::fresh(s).bytes(), |x| x.to_vec());
             let call = if j < calls {
-                next_call(rng, &s, &source, list.saves.len(), &base, calls - j)
+                after_trial(rng, last).unwrap_or_else(|| {
+                    next_call(rng, &s, &source, list.saves.len(), &base, calls - j)
+                })
             } else {
                 // A value has four records at most.
                 let room = 80 * (source.len() / s.m as usize + 1);
@@ -55,12 +59,14 @@ impl Run<'_> {
             }
             let image = image_of(&logger);
             self.run_call(&mut logger, &call, &answer, &mut list, rng).map_err(at)?;
-            if let (Call::Feed { block, room }, Answer::Feed(fed, _)) = (&call, &answer) {
-                let after = image_of(&logger);
-                self.feed_by_hosts(&image, &after, block, *room, &answer).map_err(at)?;
+            let after = image_of(&logger);
+            self.by_hosts(&image, &after, &call, &answer, rng).map_err(at)?;
+            if let (Call::Feed { block, .. }, Answer::Feed(fed, _)) = (&call, &answer) {
                 self.seen.marks.fed(&Fields::of(&after), block.get(fed.taken as usize));
                 source.drain(..fed.taken as usize);
             }
+            self.seen.trials.call(&call, answer.told().map(|x| x.0), &image);
+            last = Some(call);
         }
         let written = engineer.written();
         demand(written == engineer.due(), || "records written are not those due".into())?;
@@ -86,15 +92,21 @@ impl Run<'_> {
     ) -> Outcome<()> {
         let fill = rng.next() as u8;
         match (call, answer) {
-            (Call::Feed { block, room }, Answer::Feed(fed, records)) => {
-                self.seen.call("feed");
+            (Call::Feed { block, room }, Answer::Feed(fed, records))
+            | (Call::Trial { block, room }, Answer::Trial(fed, records)) => {
+                self.seen.call(call.name());
                 let block = waves::bytes(block);
+                let block = block.as_chunks::<2>().0;
                 let mut buffer = Guarded::filled(*room, fill);
-                let by_logger = logger.feed(block.as_chunks::<2>().0, buffer.get_mut());
+                let by_logger = if let Call::Feed { .. } = call {
+                    list.written.extend(records);
+                    logger.feed(block, buffer.get_mut())
+                } else {
+                    logger.trial(block, buffer.get_mut())
+                };
                 demand(*fed == by_logger, || format!("{fed:?} and {by_logger:?}"))?;
                 let mut expected = Guarded::filled(*room, fill).get().to_vec();
                 expected[..records.len()].copy_from_slice(records);
-                list.written.extend(records);
                 demand(buffer.holds() && buffer.get() == expected, || {
                     format!("records: {}", first_difference(&expected, buffer.get()))
                 })
@@ -138,20 +150,27 @@ impl Run<'_> {
         }
     }
 
-    /// The same feed through advance, from the image before to the image after.
-    fn feed_by_hosts(
+    /// The same feed through advance, from the image before to the image after, or the same trial.
+    fn by_hosts(
         &mut self,
         before: &[u8],
         after: &[u8],
-        block: &[i16],
-        room: usize,
+        call: &Call,
         answer: &Answer,
+        rng: &mut Rng,
     ) -> Outcome<()> {
-        let Answer::Feed(fed, records) = answer else { unreachable!() };
+        let Some(((block, room), (fed, records))) = call.block().zip(answer.told()) else {
+            return Ok(());
+        };
+        let samples = waves::bytes(block);
         let lengths = Lengths { image: IMAGE, records: room, reply: 24 };
-        let left = self.advance(before, &waves::bytes(block), lengths, 1)?;
+        let (left, image) = if let Call::Feed { .. } = call {
+            (self.advance_and_try(rng, before, &samples, lengths, 1)?, after)
+        } else {
+            (self.trial(before, &samples, lengths, 1)?, &[][..])
+        };
         let same = left.number == 0
-            && left.image == after
+            && left.image == image
             && left.records[..records.len()] == records[..]
             && [left.reply(0), left.reply(1), left.reply(2)] == [fed.taken, fed.written, fed.why];
         demand(same, || "the hosts agree, but not with the engineer".into())
@@ -179,13 +198,7 @@ pub fn next_call(
     base: &[u8],
     left: i64,
 ) -> Call {
-    let room = match rng.range(0, 9) {
-        0 => 0,
-        1 => rng.range(0, 100),
-        2 => one_of(&[19, 20, 39, 40, 59, 60, 61], rng),
-        3..=4 => 20 * rng.range(0, 3),
-        _ => 4000,
-    } as usize;
+    let room = some_room(rng);
     match rng.range(0, 99) {
         0..=59 => {
             let most = source.len() as i64;
@@ -198,7 +211,11 @@ pub fn next_call(
                 _ => 2 * most / left + rng.range(0, s.m),
             };
             let block = source[..length.min(most) as usize].to_vec();
-            Call::Feed { block, room }
+            if rng.chance(25) {
+                Call::Trial { block, room }
+            } else {
+                Call::Feed { block, room }
+            }
         }
         60..=69 => Call::Look,
         70..=84 => {
@@ -210,9 +227,34 @@ pub fn next_call(
     }
 }
 
+/// After a trial, often its block again: fed with the same room or another, or tried with another.
+pub fn after_trial(rng: &mut Rng, last: Option<Call>) -> Option<Call> {
+    let Some(Call::Trial { block, room }) = last else { return None };
+    let other = some_room(rng);
+    match rng.range(0, 9) {
+        0..=2 => Some(Call::Feed { block, room }),
+        3..=4 => Some(Call::Feed { block, room: other }),
+        5 => Some(Call::Trial { block, room: other }),
+        _ => None,
+    }
+}
+
+fn some_room(rng: &mut Rng) -> usize {
+    let room = match rng.range(0, 9) {
+        0 => 0,
+        1 => rng.range(0, 100),
+        2 => one_of(&[19, 20, 39, 40, 59, 60, 61], rng),
+        3..=4 => 20 * rng.range(0, 3),
+        _ => 4000,
+    };
+    room as usize
+}
+
 fn describe(call: &Call) -> String {
     match call {
-        Call::Feed { block, room } => format!("feed {} samples, room {room}", block.len()),
+        Call::Feed { block, room } | Call::Trial { block, room } => {
+            format!("{} {} samples, room {room}", call.name(), block.len())
+        }
         Call::Look => "look".into(),
         Call::Save { length } => format!("save {length}"),
         Call::RestoreSave { name } => format!("restore save {name}"),

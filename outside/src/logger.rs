@@ -125,6 +125,11 @@ impl Logger {
         Fed { taken: taken as u64, written: (room.used / RECORD) as u64, why }
     }
 
+    /// Trial: feed on a copy.
+    pub fn trial(&self, block: &[Sample], scratch: &mut [u8]) -> Fed {
+        self.clone().feed(block, scratch)
+    }
+
     /// Takes half-cycle by half-cycle: the samples taken, and why no more.
     fn take(&mut self, block: &[Sample], room: &mut Room) -> (usize, u64) {
         let mut taken = 0;

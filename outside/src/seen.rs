@@ -7,24 +7,26 @@ use crate::room::RECORD;
 use crate::rules::Q;
 use crate::stands::Stands;
 use crate::three;
+use crate::trials::{InLists, OnImages};
 use std::collections::BTreeMap;
 
 /// Names of the calls that are counted.
-pub const CALLS: [&str; 8] =
-    ["start", "feed", "look", "save", "restore", "begin", "advance", "count_day"];
+pub const CALLS: [&str; 10] =
+    ["start", "feed", "trial", "look", "save", "restore", "begin", "advance", "try", "count_day"];
 
 /// What has been seen.
 #[derive(Default)]
 pub struct Seen {
-    pub calls: [u64; 8],
-    /// Records written by advance, by kind, 1 to 4, without and with the mark.
-    pub records: [[u64; 2]; 5],
+    pub calls: [u64; 10],
+    /// What advance has told and written.
+    pub fed: Told,
+    /// What trials have shown, in lists and on images.
+    pub trials: InLists,
+    pub tries: OnImages,
     /// What the marks of recordings have shown.
     pub marks: Marks,
     /// Rules of 11, each broken alone, and the nearest accepted image.
     pub rules: BTreeMap<&'static str, [u64; 2]>,
-    /// Why advance took no more samples, 0 to 2.
-    pub whys: [u64; 3],
     /// Refusals of begin, 1 to 7, and of advance, 7 to 13.
     pub begin_refusals: [u64; 14],
     pub advance_refusals: [u64; 14],
@@ -47,17 +49,43 @@ pub struct Seen {
 /// The kinds of record.
 pub const KINDS: [(usize, &str); 4] = [(1, "dip"), (2, "swell"), (3, "interruption"), (4, "rvc")];
 
-impl Seen {
-    pub fn call(&mut self, name: &str) {
-        let at = CALLS.iter().position(|x| *x == name).unwrap();
-        self.calls[at] += 1;
-    }
+/// What calls that take samples, or try them, have told and written.
+#[derive(Default)]
+pub struct Told {
+    /// Why no more samples were taken, 0 to 2.
+    whys: [u64; 3],
+    /// Records, by kind, 1 to 4, without and with the mark.
+    records: [[u64; 2]; 5],
+}
 
-    pub fn fed(&mut self, why: u64, records: &[u8]) {
+impl Told {
+    pub fn add(&mut self, why: u64, records: &[u8]) {
         self.whys[why as usize] += 1;
         for x in records.chunks_exact(RECORD) {
             self.records[x[0] as usize][x[1] as usize] += 1;
         }
+    }
+
+    /// Every count under its name, which begins with `of`.
+    pub fn counts(&self, of: &str) -> Vec<(String, u64)> {
+        let mut list = Vec::new();
+        for (why, &count) in self.whys.iter().enumerate() {
+            list.push((format!("{of}why {why}"), count));
+        }
+        for (kind, name) in KINDS {
+            for mark in [0, 1] {
+                let name = format!("{of}record {name}, mark {mark}");
+                list.push((name, self.records[kind][mark]));
+            }
+        }
+        list
+    }
+}
+
+impl Seen {
+    pub fn call(&mut self, name: &str) {
+        let at = CALLS.iter().position(|x| *x == name).unwrap();
+        self.calls[at] += 1;
     }
 
     pub fn rule(&mut self, rule: &'static str, broken: bool) {
@@ -73,22 +101,16 @@ impl Seen {
 
     /// Every count under its name.
     pub fn counts(&self) -> Vec<(String, u64)> {
-        let mut list = Vec::new();
+        let calls = CALLS.iter().zip(self.calls);
+        let mut list: Vec<_> = calls.map(|(name, count)| (name.to_string(), count)).collect();
+        list.extend(self.fed.counts(""));
+        list.extend(self.trials.counts());
+        list.extend(self.tries.counts());
         let mut add = |name: String, count: u64| list.push((name, count));
-        for (name, &count) in CALLS.iter().zip(&self.calls) {
-            add(name.to_string(), count);
-        }
-        for (kind, name) in KINDS {
-            add(format!("record {name}, mark 0"), self.records[kind][0]);
-            add(format!("record {name}, mark 1"), self.records[kind][1]);
-        }
         add("changes dropped".into(), self.dropped);
         add("built images".into(), self.built);
         for (name, count) in self.stands.counts() {
             add(name, count);
-        }
-        for (why, &count) in self.whys.iter().enumerate() {
-            add(format!("why {why}"), count);
         }
         for number in 1..=7 {
             add(format!("begin refuses {number}"), self.begin_refusals[number]);

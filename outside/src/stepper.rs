@@ -224,6 +224,46 @@ impl State {
         debug_assert!(r <= TOP);
         records
     }
+
+    /// Takes samples up to the first that cannot be taken; writes their records, and the reply.
+    fn feed(&mut self, samples: &[u8], records: &mut [u8], reply: &mut [u8]) {
+        let (mut taken, mut written, mut why) = (0u64, 0usize, 0u64);
+        for x in samples.chunks_exact(2) {
+            let x = i16::from_le_bytes([x[0], x[1]]);
+            if self.count + 1 < self.s.m {
+                // It completes no half-cycle, so it is always taken.
+                self.sample(x);
+                taken += 1;
+                continue;
+            }
+            let mut next = self.clone();
+            let due = next.sample(x);
+            if next.v > END {
+                why = 2;
+                break;
+            }
+            let end = written + due.len();
+            if end > records.len() / RECORD * RECORD {
+                why = 1;
+                break;
+            }
+            records[written..end].copy_from_slice(&due);
+            written = end;
+            taken += 1;
+            *self = next;
+        }
+        for (at, x) in [(0, taken), (8, (written / RECORD) as u64), (16, why)] {
+            reply[at..at + 8].copy_from_slice(&x.to_le_bytes());
+        }
+    }
+}
+
+/// 8 to 11 for the image, then 12 for the samples; else 0.
+fn refusal(image: &[u8], samples: &[u8]) -> u32 {
+    match rules::restore(image) {
+        0 if samples.len() % 2 != 0 => 12,
+        number => number,
+    }
 }
 
 /// Begin, by the stepper.
@@ -247,12 +287,9 @@ pub fn advance(
     records: &mut [u8],
     reply: &mut [u8],
 ) -> u32 {
-    let number = rules::restore(image);
+    let number = refusal(image, samples);
     if number != 0 {
         return number;
-    }
-    if samples.len() % 2 != 0 {
-        return 12;
     }
     if new_image.len() < IMAGE {
         return 7;
@@ -261,34 +298,20 @@ pub fn advance(
         return 13;
     }
     let mut state = State::of(image);
-    let (mut taken, mut written, mut why) = (0u64, 0usize, 0u64);
-    for x in samples.chunks_exact(2) {
-        let x = i16::from_le_bytes([x[0], x[1]]);
-        if state.count + 1 < state.s.m {
-            // It completes no half-cycle, so it is always taken.
-            state.sample(x);
-            taken += 1;
-            continue;
-        }
-        let mut next = state.clone();
-        let due = next.sample(x);
-        if next.v > END {
-            why = 2;
-            break;
-        }
-        let end = written + due.len();
-        if end > records.len() / RECORD * RECORD {
-            why = 1;
-            break;
-        }
-        records[written..end].copy_from_slice(&due);
-        written = end;
-        taken += 1;
-        state = next;
-    }
+    state.feed(samples, records, reply);
     new_image[..IMAGE].copy_from_slice(&state.image());
-    for (at, x) in [(0, taken), (8, (written / RECORD) as u64), (16, why)] {
-        reply[at..at + 8].copy_from_slice(&x.to_le_bytes());
+    0
+}
+
+/// Trial, by the stepper: what is fed is the image's copy, and nothing is saved.
+pub fn trial(image: &[u8], samples: &[u8], scratch: &mut [u8], reply: &mut [u8]) -> u32 {
+    let number = refusal(image, samples);
+    if number != 0 {
+        return number;
     }
+    if reply.len() < 24 {
+        return 13;
+    }
+    State::of(image).feed(samples, scratch, reply);
     0
 }

@@ -1,6 +1,7 @@
 //! The recording, the lists of calls and the images that the proved programs are run on in the gate
 //! hold what they are there for. `files.sh` compares them with the committed ones.
 
+use outside::by_logger::by_logger;
 use outside::call_lists::{self, Tally};
 use outside::logger::Logger;
 use outside::program;
@@ -27,12 +28,14 @@ fn the_recording() {
     assert!(!text.printed.contains("rvc 656 "));
 }
 
-/// Everything that is counted stands in them: each call, refusal, why, phase, event and mark.
+/// Everything that is counted stands in them: each call, refusal, why, phase, event and mark, and what
+/// stands before and behind trials.
 #[test]
 fn the_lists_of_calls() {
     let mut seen = Tally::default();
     let list = call_lists::files(&mut seen);
-    has_lines(&list.text, &["samples ", "parts ", "none"]);
+    assert_eq!(list.difference(&by_logger(&list.input)), None);
+    has_lines(&list.text, &["samples ", "parts ", "none", "trial 55 0 1 ", "feed 64 1 0 "]);
     for (name, count) in seen.counts() {
         assert!(count > 0, "{name}");
     }

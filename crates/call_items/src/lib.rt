@@ -146,8 +146,9 @@ pub fn set_all(buffer: &mut [u8], byte: u8)
     }
 }
 
-pub fn print_told(told: Told) {
-    print_word(b"feed");
+// What feed tells, or a trial: a word and three numbers.
+pub fn print_told(word: &[u8], told: Told) {
+    print_word(word);
     print_number(told.taken as u64);
     print_number(told.written as u64);
     print_number(told.why as u64);

@@ -15,6 +15,7 @@
 //   5 restore of bytes    none                         image               restore, 0 or the refusal's number
 //   6 gather              samples in a half-cycle      samples             samples, then parts, each with count, sum, last sum, whether there is
 //                                                                          one, the marks of the half in progress and the last, halves
+//   7 trial               length of the scratch buffer samples             trial, taken, written, why, scratch buffer
 //
 // A list is a start and its calls; a refused start has none. Each answer is a line, with a space between words; numbers are in base ten, buffers in base
 // sixteen. Samples are low byte first; a last odd byte is none. The first 16 accepted saves of a list are kept, and named by their place among them; the
@@ -48,6 +49,8 @@ const RESTORE_BYTES: u8 = 5;
 
 const GATHER: u8 = 6;
 
+const TRIAL: u8 = 7;
+
 // The saves that are kept of a list.
 const PLACES: usize = 16;
 
@@ -63,21 +66,28 @@ struct Counted {
     halves: usize,
 }
 
-fn feed_block(logger: Logger, block: &[i16], records: &mut [u8], fill: u8) -> Logger
+fn feed_block(logger: Logger, block: &[i16], records: &mut [u8]) -> Logger
     requires { ⌜ ValidState (logger .state) × (length (now records) ≤ 65535) ⌝ }
     ensures { λ r. ⌜ ValidState (r .state) ⌝ }
 {
-    call_items::set_all(records, fill);
     let fed = logger.feed(block, records);
     let told = fed.told;
-    call_items::print_told(told);
+    call_items::print_told(b"feed", told);
     call_items::print_bytes(records);
     fed.logger
 }
 
-// Feeds the samples of these bytes with this record buffer.
-fn feed(logger: Logger, bytes: &[u8], records: &mut [u8], fill: u8) -> Logger
-    requires { ⌜ ValidState (logger .state) × (length (now bytes) ≤ 65535) × (length (now records) ≤ 65535) ⌝ }
+fn try_block(logger: Logger, block: &[i16], scratch: &mut [u8])
+    requires { ⌜ ValidState (logger .state) × (length (now scratch) ≤ 65535) ⌝ }
+{
+    let told = logger.trial(block, scratch);
+    call_items::print_told(b"trial", told);
+    call_items::print_bytes(scratch);
+}
+
+// Feeds or tries the samples of these bytes with this buffer; the logger that goes on.
+fn feed_or_try(logger: Logger, trial: bool, bytes: &[u8], lent: &mut [u8], fill: u8) -> Logger
+    requires { ⌜ ValidState (logger .state) × (length (now bytes) ≤ 65535) × (length (now lent) ≤ 65535) ⌝ }
     ensures { λ r. ⌜ ValidState (r .state) ⌝ }
 {
     let count = bytes.len() / 2;
@@ -85,7 +95,12 @@ fn feed(logger: Logger, bytes: &[u8], records: &mut [u8], fill: u8) -> Logger
     let mut places = [0i16; MOST_SAMPLES];
     let block: &mut [i16] = &mut places[..count];
     samples::decode(&bytes[..even], block);
-    feed_block(logger, block, records, fill)
+    call_items::set_all(lent, fill);
+    if trial {
+        try_block(logger, block, lent);
+        return logger;
+    }
+    feed_block(logger, block, lent)
 }
 
 fn look(logger: Logger)
@@ -278,9 +293,10 @@ fn make_call(list: List, item: Item, bytes: &[u8], space: &mut [u8], saves: &mut
     let kept = list.kept;
     let kind = item.kind;
     let number = item.number as usize;
-    if kind == FEED {
-        let fed = feed(logger, bytes, &mut space[..number], item.fill);
-        return List { logger: fed, kept };
+    let trial = kind == TRIAL;
+    if trial || kind == FEED {
+        let held = feed_or_try(logger, trial, bytes, &mut space[..number], item.fill);
+        return List { logger: held, kept };
     }
     if kind == SAVE {
         let more = save(logger, &mut space[..number], item.fill, saves, kept);

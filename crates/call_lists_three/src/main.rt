@@ -29,7 +29,7 @@ ghost use Rattle.three_state.specs.ThreeState.{ValidThree};
 
 fn print_feed(answer: FeedAnswer) {
     match answer {
-        FeedAnswer::Taken(told) => call_items::print_told(told),
+        FeedAnswer::Taken(told) => call_items::print_told(b"feed", told),
         FeedAnswer::Refused(number) => {
             call_items::print_word(b"refused");
             call_items::print_number(number as u64);

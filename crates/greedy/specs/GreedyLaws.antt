@@ -1,11 +1,11 @@
--- The laws of the greedy feed: its ways, two blocks as one, and what bounds it.
-use mathlib.Core.Path.{_≡_, refl, sym, _∙_, ap}
+-- The laws of the greedy feed: its ways, two blocks as one, what bounds it, and less room.
+use mathlib.Core.Path.{_≡_, refl, sym, _∙_, ap, subst}
 use mathlib.Core.Bool.{Bool, true, false}
 use mathlib.Core.List.{List, [], _∷_, _++_, append-assoc}
 use Prim.Native.Nat.{ℕ, _+_, _-_, _≤_}
 use native.Mathlib.Omega.{arith}
 use lib.ListN.{length, length-append}
-use borrow.Author.Tests.{ltb-false}
+use borrow.Author.Tests.{ltb-true, ltb-false, lt-ltb, le-ltb}
 use Rattle.numbers.specs.Notation.{_<ᵇ_, _≡ᵇ_, if_then_else_}
 use Rattle.reading.specs.declared.Record.{Record}
 use Rattle.greedy.specs.Greedy.{Machine, Run, stopped, joined, fedBy}
@@ -92,3 +92,30 @@ module _ {X St : Type 0} (M : Machine X St) where
         whole = λ e. omega (arith, ih .whole e);
         fits = omega (arith, ih .fits, length-append (M .dueWith st x) (later .records), ltb-false room (length (M .dueWith st x)) q);
       }
+
+  -- with less room that still takes all records of a feed, the same feed
+  pub fedBy-less : (xs : List X) (st : St) (room less : ℕ) → length (fedBy M st xs room .records) ≤ less → less ≤ room → fedBy M st xs less ≡ fedBy M st xs room
+  unfolding fedBy
+  fedBy-less [] st room less enough most = refl
+  fedBy-less (x ∷ xs) st room less enough most =
+      go (M .atEnd st x) (room <ᵇ length due) refl refl (λ e. fedBy-less xs (M .next st x) (room - length due) (less - length due) e (omega arith))
+      (subst (λ (r : Run St). length (r .records) ≤ less) is enough)
+      ∙ sym is
+    where
+      due : List Record
+      due = M .dueWith st x
+
+      later : Run St
+      later = fedBy M (M .next st x) xs (room - length due)
+
+      is : fedBy M st (x ∷ xs) room ≡ byFirst st x xs room (M .atEnd st x) (room <ᵇ length due)
+      is = fedBy-cons st x xs room _ _ refl refl
+
+      go : (e f : Bool) → M .atEnd st x ≡ e → (room <ᵇ length due) ≡ f
+          → (length (later .records) ≤ less - length due → fedBy M (M .next st x) xs (less - length due) ≡ later)
+          → length (byFirst st x xs room e f .records) ≤ less → fedBy M st (x ∷ xs) less ≡ byFirst st x xs room e f
+      go true f p q ih fits = fedBy-ends st x xs less p
+      go false true p q ih fits = fedBy-full st x xs less p (lt-ltb less (length due) (omega (arith, ltb-true room (length due) q)))
+      go false false p q ih fits =
+          let long = length-append due (later .records) in
+          fedBy-takes st x xs less p (le-ltb less (length due) (omega (arith, long))) ∙ ap (joined 1 due) (ih (omega (arith, long)))

@@ -19,16 +19,17 @@ use Rattle.reading.specs.Records.{recordBytes}
 use Rattle.reading.specs.Image.{imageOf}
 use Rattle.reading.specs.Restore.{restoreRefusal}
 use Rattle.reading.specs.Feed.{dueAfter, records, completed, taken}
-use Rattle.reading.specs.Engineer.{Call, Desk, over, room, emptyDesk, answer, deskWith, answers, deskAfter, WellFormed}
-use Rattle.reading.specs.Engineer.Call.{feed, look, save, restoreSave, restoreRefused}
-use Rattle.reading.specs.Engineer.Answer.{fed, looked, saved, restored}
+use Rattle.reading.specs.Calls.{Calls, withoutLogger}
+use Rattle.reading.specs.Engineer.{Call, Answer, Desk, over, room, emptyDesk, fedAfter, answer, deskWith, answers, deskAfter, WellFormed}
+use Rattle.reading.specs.Engineer.Call.{feed, trial, look, save, restoreSave, restoreRefused}
+use Rattle.reading.specs.Engineer.Answer.{fed, tried, looked, saved, restored}
 use Rattle.reading.specs.Layout.{recordLength, imageLength}
 use Rattle.reading_laws.specs.RecordingsLaws.{samples-append, samples-take}
 use Rattle.reading_laws.specs.Past.{past}
 use Rattle.reading_laws.specs.PastLaws.{past-grows}
 use Rattle.reading_laws.specs.CompletedLaws.{records-completed}
 use Rattle.records.specs.DueLaws.{length-recordBytes, recordBytes-append}
-use Rattle.greedy.specs.Greedy.{outcomeOf}
+use Rattle.greedy.specs.Greedy.{Run, outcomeOf}
 use Rattle.greedy.specs.GreedyFollows.{Recording, fedBy-follows, recording-fed}
 use Rattle.state.specs.declared.State.{State}
 use Rattle.state.specs.State.{fresh, stateOf}
@@ -39,6 +40,7 @@ use Rattle.image.specs.Image.{imageBytes, saveAnswer, savedBytes, restoredBy}
 use Rattle.image.specs.ImageLaws.{length-imageBytes, restoredBy-saved, restoredBy-refused}
 use Rattle.image.specs.ImageFollows.{image-of-state}
 use Rattle.logger.specs.Calls.{startedFrom, loggerCalls}
+use Rattle.handover.specs.Claim.{isTrial, withoutTrials}
 use Rattle.handover.specs.Claim.{Caller, loggerAnswer, callerAfter, loggerAnswers, callerAfterAll, freshCaller, Agree, Kept, Demand3}
 
 -- lists of copies
@@ -67,6 +69,35 @@ getD-map f (x ∷ xs) (suc j) a b h = getD-map f xs j a b (omega arith)
 -- the bytes written at the front of a buffer
 pub take-over : (n : ℕ) (bytes lent : List ℕ) → length bytes ≡ n → take n (over bytes lent) ≡ bytes
 take-over n bytes lent l = take-at bytes (drop (length bytes) lent) n l
+
+-- what stands at the place of a call that is no trial
+other-stays : {A : Type 0} (c : Call) → isTrial c ≡ false → (x : A) (xs : List A) → (if isTrial c then xs else x ∷ xs) ≡ x ∷ xs
+other-stays c other x xs = ap (λ (t : Bool). if t then xs else x ∷ xs) other
+
+-- trials change nothing, whoever is called: without them the other answers are the same, and so is what is kept
+module _ {L : Type 0} (C : Calls L) where
+  pub record Aside (w : Caller L) (cs : List Call) : Type 0 where
+    pub same-others : withoutTrials cs (loggerAnswers C w cs) ≡ loggerAnswers C w (withoutTrials cs cs)
+    pub same-after : callerAfterAll C w cs ≡ callerAfterAll C w (withoutTrials cs cs)
+
+  -- a call that is no trial
+  aside-other : (w : Caller L) (c : Call) (cs : List Call) → isTrial c ≡ false → Aside (callerAfter C w c) cs → Aside w (c ∷ cs)
+  aside-other w c cs other rest =
+      let a = loggerAnswer C w c in
+      let calls = sym (other-stays c other c (withoutTrials cs cs)) in
+      record {
+        same-others = other-stays c other a _ ∙ ap (λ (later : List Answer). a ∷ later) (rest .same-others) ∙ ap (loggerAnswers C w) calls;
+        same-after = rest .same-after ∙ ap (callerAfterAll C w) calls;
+      }
+
+  aside : (cs : List Call) (w : Caller L) → Aside w cs
+  aside [] w = record { same-others = refl; same-after = refl }
+  aside (trial block lent ∷ cs) w = let rest = aside cs w in record { same-others = rest .same-others; same-after = rest .same-after }
+  aside (feed block lent ∷ cs) w = aside-other w (feed block lent) cs refl (aside cs _)
+  aside (look ∷ cs) w = aside-other w look cs refl (aside cs _)
+  aside (save lent ∷ cs) w = aside-other w (save lent) cs refl (aside cs _)
+  aside (restoreSave j ∷ cs) w = aside-other w (restoreSave j) cs refl (aside cs _)
+  aside (restoreRefused bytes ∷ cs) w = aside-other w (restoreRefused bytes) cs refl (aside cs _)
 
 module _ (s : Settings) (valid : ValidSettings s) where
   some : 0 < s .samples
@@ -102,17 +133,27 @@ module _ (s : Settings) (valid : ValidSettings s) where
     abbrev copies : List (List ℤ)
     copies = d .copies
 
+    -- of a block that is fed, or tried
+    block-told : (block : List ℤ) (lent : List ℕ) → withoutLogger (fedWith (stateOf s rec) block lent) ≡ fedAfter s rec block lent
+    unfolding fedWith
+    block-told block lent = ap (λ (r : Run State). withoutLogger (outcomeOf lent r))
+        (fedBy-follows (past-grows s some) (steps-of s some) block rec (room lent) (ok .recording-ok .within))
+
+    trial-step : (block : List ℤ) (lent : List ℕ) → CallAgrees d (trial block lent)
+    trial-step block lent = let B = block-told block lent in record { same-answer = λ i. tried (B i .told) (B i .bytes); same-kept = refl; ok = ok }
+
     feed-step : (block : List ℤ) (lent : List ℕ) → Samples block → CallAgrees d (feed block lent)
     unfolding fedWith
     feed-step block lent are =
         let F = fedBy-follows (past-grows s some) (steps-of s some) block rec (room lent) (ok .recording-ok .within) in
+        let B = block-told block lent in
         let n = taken s rec block (room lent) in
         let es = completed s rec block n in
         let grown : recordsOf rec ++ take (recordLength * length es) (over (recordBytes es) lent) ≡ recordsOf (rec ++ take n block) =
         ap (λ (bytes : List ℕ). recordsOf rec ++ bytes) (take-over (recordLength * length es) (recordBytes es) lent (length-recordBytes es))
         ∙ sym (ap recordBytes (records-completed (past-grows s some) rec block n) ∙ recordBytes-append (records s rec) es) in
         record {
-          same-answer = λ i. fed (outcomeOf lent (F i) .told) (outcomeOf lent (F i) .bytes);
+          same-answer = λ i. fed (B i .told) (B i .bytes);
           same-kept =
               (λ i. record {
                 logger = F i .after;
@@ -217,6 +258,7 @@ module _ (s : Settings) (valid : ValidSettings s) where
   pub run : (cs : List Call) (d : Desk) → DeskOk d → WellFormed (length (d .copies)) cs → ListAgrees d cs
   run [] d ok w = record { same-answers = refl; same-kept = refl }
   run (feed block lent ∷ cs) d ok w = let p = feed-step d ok block lent (w .0) in step-run d (feed block lent) cs p (run cs (deskWith s d (feed block lent)) (p .ok) (w .2))
+  run (trial block lent ∷ cs) d ok w = step-run d (trial block lent) cs (trial-step d ok block lent) (run cs d ok (w .2))
   run (look ∷ cs) d ok w = step-run d look cs (look-step d ok) (run cs d ok w)
   run (save lent ∷ cs) d ok w =
       let p = save-step d ok lent in
@@ -238,9 +280,12 @@ module _ (s : Settings) (valid : ValidSettings s) where
   pub agrees : (cs : List Call) → WellFormed 0 cs → Agree loggerCalls s (fresh s) cs
   agrees cs w =
       let r = run cs emptyDesk (record { recording-ok = recording-none s; copies-ok = tt }) w in
+      let without = aside loggerCalls cs (freshCaller loggerCalls (fresh s)) in
       record {
         same-answers = ap (λ (c : Caller State). loggerAnswers loggerCalls c cs) fresh-kept ∙ r .same-answers;
         same-records = ap (λ (c : Caller State). callerAfterAll loggerCalls c cs .written) fresh-kept ∙ ap (λ (c : Caller State). c .written) (r .same-kept);
+        others-without-trials = without .same-others;
+        kept-without-trials = without .same-after;
       }
 
 -- start: settings bytes in, a fresh logger or a refusal out

@@ -1,18 +1,18 @@
--- Demand 2 of a logger's calls, the statement: what holds of every logger, also of one whose image no recording gives. Of the loggers that a recording leaves the
--- claim says more: that what is due is what 01's clauses say.
+-- Demand 2 of a logger's calls, and 02's trial, the statement: what holds of every logger, also of one whose image no recording gives. Of the loggers that a
+-- recording leaves the claim says more: that what is due is what 01's clauses say.
 use mathlib.Core.Path.{_≡_}
 use mathlib.Core.Bool.{true}
 use mathlib.Core.List.{List}
-use Prim.Native.Nat.{ℕ, _≤_, _<_}
+use Prim.Native.Nat.{ℕ, _*_, _≤_, _<_}
 use lib.ListN.{length, take}
 use lib.IntN.{ℤ}
 use Rattle.octets.specs.Bytes.{Bytes}
 use Rattle.numbers.specs.Answers.Answered.{accepted}
 use Rattle.reading.specs.Records.{recordBytes}
 use Rattle.reading.specs.Feed.{lastValue}
-use Rattle.reading.specs.Calls.{Outcome, Calls}
+use Rattle.reading.specs.Calls.{Outcome, Calls, Trial, trialTo, withoutLogger}
 use Rattle.reading.specs.Engineer.{over, room}
-use Rattle.reading.specs.Layout.{imageLength}
+use Rattle.reading.specs.Layout.{recordLength, imageLength}
 use Rattle.reading_laws.specs.Sentences.{Greatest}
 use Rattle.greedy.specs.Greedy.{walkedBy, dueOver, allowedBy, whyBy}
 use Rattle.state.specs.declared.State.{State}
@@ -32,6 +32,10 @@ pub record FedMost (st : State) (block : List ℤ) (lent : List ℕ) (o : Outcom
   -- the logger goes on as the samples taken leave it, one after the other
   pub after-is : o .after ≡ walkedBy machine st (take (o .told .taken) block)
 
+-- what a trial tells, and its records in another buffer
+abbrev pub trialInto : List ℕ → Trial → Trial
+trialInto lent t = trialTo (t .told) (over (take (recordLength * t .told .written) (t .bytes)) lent)
+
 pub record Demand2 (C : Calls State) : Type 0 where
   -- a saved image read back is the same logger, whichever logger reads it
   pub saved-restored : (st : State) → ValidState st → (old : State) (lent : List ℕ) → imageLength ≤ length lent
@@ -46,3 +50,8 @@ pub record Demand2 (C : Calls State) : Type 0 where
   -- with room for four records, and V short of its end, it takes at least one sample of a block that is not empty
   pub feed-some : (st : State) (block : List ℤ) (lent : List ℕ) → 1 ≤ length block → 4 ≤ room lent → C .look st .count < lastValue
       → 1 ≤ C .feed st block lent .told .taken
+  -- a trial tells what feed of the same block and buffer tells, and leaves the buffer as that feed does
+  pub trial-as-feed : (st : State) (block : List ℤ) (lent : List ℕ) → C .trial st block lent ≡ withoutLogger (C .feed st block lent)
+  -- after a trial, feed into another buffer tells the same and writes the same records, with as much room, or less that takes the records which the trial told
+  pub feed-as-tried : (st : State) (block : List ℤ) (scratch lent : List ℕ) → C .trial st block scratch .told .written ≤ room lent → room lent ≤ room scratch
+      → withoutLogger (C .feed st block lent) ≡ trialInto lent (C .trial st block scratch)

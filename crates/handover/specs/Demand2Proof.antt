@@ -1,8 +1,8 @@
--- Demand 2 of the logger's calls, proved: the image's round trips, the greedy feed, and that one sample has at most four records due.
-use mathlib.Core.Path.{_≡_, sym, _∙_, ap, subst, subst⁻¹}
+-- Demand 2 of the logger's calls, proved: the image's round trips, the greedy feed, that one sample has at most four records due, and the trial.
+use mathlib.Core.Path.{_≡_, refl, sym, _∙_, ap, subst, subst⁻¹}
 use mathlib.Core.Bool.{Bool, true}
 use mathlib.Core.List.{List, [], _∷_}
-use Prim.Native.Nat.{ℕ, _≤_, _<_}
+use Prim.Native.Nat.{ℕ, _*_, _≤_, _<_}
 use native.Mathlib.Omega.{arith}
 use lib.ListN.{length, take}
 use lib.IntN.{ℤ}
@@ -12,11 +12,13 @@ use Rattle.numbers.specs.Notation.{if_then_else_}
 use Rattle.numbers.specs.Answers.Answered.{accepted}
 use Rattle.reading.specs.Records.{recordBytes}
 use Rattle.reading.specs.Feed.{lastValue}
-use Rattle.reading.specs.Calls.{Saved}
+use Rattle.reading.specs.Calls.{Saved, trialTo, withoutLogger}
 use Rattle.reading.specs.Engineer.{over, room}
-use Rattle.reading.specs.Layout.{imageLength}
+use Rattle.reading.specs.Layout.{recordLength, imageLength}
 use Rattle.reading_laws.specs.TakenLaws.{greatestTo-passes, greatestTo-most, greatestTo-le}
-use Rattle.greedy.specs.Greedy.{dueOver, walkedBy, allowedBy, whyBy}
+use Rattle.records.specs.DueLaws.{length-recordBytes}
+use Rattle.greedy.specs.Greedy.{Run, fedBy, outcomeOf, dueOver, walkedBy, allowedBy, whyBy}
+use Rattle.greedy.specs.GreedyLaws.{fedBy-less}
 use Rattle.greedy.specs.GreatestLaws.{fedBy-greatest}
 use Rattle.state.specs.declared.State.{State}
 use Rattle.state.specs.State.{readingsOf, ValidState}
@@ -29,7 +31,7 @@ use Rattle.logger.specs.Logger.{savedTo}
 use Rattle.logger.specs.Calls.{loggerCalls}
 use Rattle.logger.specs.CallsLaws.{restore-accepted}
 use Rattle.handover.specs.ClaimProof.{take-over}
-use Rattle.handover.specs.Demand2.{FedMost, Demand2}
+use Rattle.handover.specs.Demand2.{FedMost, trialInto, Demand2}
 
 -- a save into a buffer that is long enough
 save-long : (st : State) (lent : List ℕ) → imageLength ≤ length lent → loggerCalls .save st lent ≡ savedTo 0 (over (imageBytes st) lent)
@@ -85,6 +87,17 @@ unfolding readingsOf
 fed-some st [] lent some four below = absurd (omega arith)
 fed-some st (x ∷ xs) lent some four below = takes-some st x xs lent four below
 
+-- trial
+as-tried : (st : State) (block : List ℤ) (scratch lent : List ℕ) → loggerCalls .trial st block scratch .told .written ≤ room lent → room lent ≤ room scratch
+    → withoutLogger (loggerCalls .feed st block lent) ≡ trialInto lent (loggerCalls .trial st block scratch)
+unfolding fedWith
+as-tried st block scratch lent enough most =
+    let run = fedBy machine st block (room scratch) in
+    let es = run .records in
+    let first = take-over (recordLength * length es) (recordBytes es) scratch (length-recordBytes es) in
+    ap (λ (r : Run State). withoutLogger (outcomeOf lent r)) (fedBy-less machine block st (room scratch) (room lent) enough most)
+    ∙ (λ i. trialTo (outcomeOf lent run .told) (over (sym first i) lent))
+
 pub demand2-holds : Demand2 loggerCalls
 demand2-holds = record {
   saved-restored = saved-back;
@@ -92,4 +105,6 @@ demand2-holds = record {
   restored-valid = still-valid;
   feed-most = fed-most;
   feed-some = fed-some;
+  trial-as-feed = λ st block lent. refl;
+  feed-as-tried = as-tried;
 }

@@ -4,7 +4,9 @@ use logger::Logger;
 use logger::Resumed;
 use logger::Started;
 use reading::Readings;
+use reading::Told;
 ghost use mathlib.Core.Path.{_≡_};
+ghost use Rattle.reading.specs.Calls.{trialTo};
 ghost use Rattle.state.specs.State.{ValidState};
 ghost use Rattle.image.specs.Image.{restoredTo};
 ghost use Rattle.logger.specs.Logger.{startedTold, YieldedValid, fedTo, savedTo};
@@ -36,6 +38,13 @@ pub fn feed(logger: Logger, block: &[i16], records: &mut [u8]) -> Fed
         × ValidState (r .logger .state) ⌝ }
 {
     logger.feed(block, records)
+}
+
+pub fn trial(logger: Logger, block: &[i16], scratch: &mut [u8]) -> Told
+    requires { ⌜ ValidState (logger .state) ⌝ }
+    ensures { λ r. ⌜ trialTo r (now (scratch .exit)) ≡ loggerCalls .trial (logger .state) (now (block .entry)) (now (scratch .entry)) ⌝ }
+{
+    logger.trial(block, scratch)
 }
 
 pub fn look(logger: Logger) -> Readings

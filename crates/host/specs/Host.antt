@@ -1,4 +1,5 @@
 -- What the calls of a host answer, and what they leave in each lent buffer.
+use mathlib.Core.Path.{_≡_}
 use mathlib.Core.Bool.{Bool, not}
 use mathlib.Core.List.{List, [], _∷_}
 use Prim.Native.Nat.{ℕ, zero, suc, _%_}
@@ -9,12 +10,14 @@ use Rattle.numbers.specs.Answers.{Answered}
 use Rattle.numbers.specs.Answers.Answered.{accepted, refused}
 use Rattle.reading.specs.declared.Told.{Told}
 use Rattle.reading.specs.Restore.{restoreRefusal}
-use Rattle.reading.specs.Calls.{Outcome}
+use Rattle.reading.specs.Calls.{Outcome, Trial}
 use Rattle.reading.specs.Engineer.{over, tooShort}
 use Rattle.reading.specs.Layout.{replyWidths, replyLength, dayReplyWidths, dayReplyLength}
 use Rattle.samples.specs.Samples.{samplesOf}
 use Rattle.state.specs.declared.State.{State}
-use Rattle.image.specs.Image.{stateAt}
+use Rattle.state.specs.State.{ValidState}
+use Rattle.image.specs.declared.Acceptance.{Acceptance}
+use Rattle.image.specs.Image.{stateAt, restoredTo}
 use Rattle.logger.specs.Calls.{loggerCalls}
 use Rattle.day_count.specs.declared.DayCount.{DayCount}
 use Rattle.day_count.specs.Days.{dayCounted}
@@ -44,13 +47,19 @@ begunBy (refused n) lent = begunTo n lent
 unfoldable pub begun : List ℕ → List ℕ → Begun
 begun b lent = begunBy (loggerCalls .start b) lent
 
--- advance: restore's refusals, 12 for an odd number of sample bytes, 7 for the next image's buffer, 13 for the reply; else 0
-abbrev pub advanceRefusal : List ℕ → List ℕ → List ℕ → List ℕ → ℕ
-advanceRefusal image samples next reply =
+-- what advance and try begin with: restore's refusals, 12 for an odd number of sample bytes; else the rest
+abbrev pub blockRefusal : List ℕ → List ℕ → ℕ → ℕ
+blockRefusal image samples rest =
     refuse restoreRefusal image unless restoreRefusal image ≡ᵇ 0 then
-    refuse 12 unless length samples % 2 ≡ᵇ 0 then
-    refuse 7 unless not (tooShort next) then
-    refuse 13 unless replyLength ≤ᵇ length reply then 0
+    refuse 12 unless length samples % 2 ≡ᵇ 0 then rest
+
+-- and end with: 13 for a reply that is shorter; else 0
+abbrev pub replyRefusal : List ℕ → ℕ
+replyRefusal reply = refuse 13 unless replyLength ≤ᵇ length reply then 0
+
+-- advance: between them 7 for the next image's buffer
+abbrev pub advanceRefusal : List ℕ → List ℕ → List ℕ → List ℕ → ℕ
+advanceRefusal image samples next reply = blockRefusal image samples (refuse 7 unless not (tooShort next) then replyRefusal reply)
 
 -- taken, written and why, and the reply's further bytes as they were
 unfoldable pub replied : Told → List ℕ → List ℕ
@@ -64,6 +73,28 @@ advancedBy (suc n) f next records reply = advancedTo (suc n) next records reply
 unfoldable pub advanced : List ℕ → List ℕ → List ℕ → List ℕ → List ℕ → Advanced
 advanced image samples next records reply =
     advancedBy (advanceRefusal image samples next reply) (loggerCalls .feed (stateAt image) (samplesOf samples) records) next records reply
+
+-- try: its answer, and the scratch buffer and the reply as it leaves them
+pub record BlockTried : Type 0 where
+  pub number : ℕ
+  pub scratch : List ℕ
+  pub reply : List ℕ
+
+abbrev pub blockTriedTo : ℕ → List ℕ → List ℕ → BlockTried
+blockTriedTo number scratch reply = record { number = number; scratch = scratch; reply = reply }
+
+-- try: no 7, for there is no next image
+abbrev pub tryRefusal : List ℕ → List ℕ → List ℕ → ℕ
+tryRefusal image samples reply = blockRefusal image samples (replyRefusal reply)
+
+-- where it refuses, both buffers are as they were; else those of the trial and the reply
+abbrev pub blockTriedBy : ℕ → Trial → List ℕ → List ℕ → BlockTried
+blockTriedBy zero t scratch reply = blockTriedTo 0 (t .bytes) (replied (t .told) reply)
+blockTriedBy (suc n) t scratch reply = blockTriedTo (suc n) scratch reply
+
+unfoldable pub blockTried : List ℕ → List ℕ → List ℕ → List ℕ → BlockTried
+blockTried image samples scratch reply =
+    blockTriedBy (tryRefusal image samples reply) (loggerCalls .trial (stateAt image) (samplesOf samples) scratch) scratch reply
 
 -- the count of a day: its answer, and the reply as it leaves it
 pub record CountedDay : Type 0 where
@@ -85,3 +116,9 @@ countedBy (accepted day) reply = if dayReplyLength ≤ᵇ length reply then coun
 
 unfoldable pub counted : List ℕ → List ℕ → ℕ → Bool → ℕ → List ℕ → CountedDay
 counted settings records z above day reply = countedBy (dayCounted settings records z above day) reply
+
+-- `resume`, which advance and try begin with: an image restored into a spare logger, whichever that is
+pub record Resumes (image : List ℕ) (st : State) (told : Acceptance) : Type 0 where
+  pub spare : State
+  pub restored : restoredTo st told ≡ loggerCalls .restore spare image
+  pub valid : ValidState st

@@ -1,9 +1,10 @@
-// The calls for a host program in C, on byte slices: begin and advance of 01, and 02's count per day. Each returns 0 or the papers' number of the refusal.
+// The calls for a host program in C, on byte slices: begin and advance of 01, 02's trial and count per day. Each returns 0 or the number of the refusal.
 use day_count::Counted;
 use day_count::DayCount;
 use image::Acceptance;
 use logger::Fed;
 use logger::Logger;
+use logger::Resumed;
 use logger::Started;
 use reading::Told;
 use records::RECORD_LENGTH;
@@ -21,7 +22,7 @@ ghost use Rattle.logger.specs.Logger.{fedTo};
 ghost use Rattle.logger.specs.Calls.{loggerCalls};
 ghost use Rattle.reading.specs.Engineer.{over};
 ghost use Rattle.reading.specs.Layout.{replyLength, dayReplyLength};
-ghost use Rattle.host.specs.Host.{begunTo, begun, replied, advancedTo, advanced, dayReplied, countedTo, counted};
+ghost use Rattle.host.specs.Host.{begunTo, begun, Resumes, replied, advancedTo, advanced, blockTriedTo, blockTried, dayReplied, countedTo, counted};
 
 // A reply: taken, written, why.
 const REPLY_LENGTH: usize = 24;
@@ -51,6 +52,14 @@ fn plain_settings() -> Settings
         swell: 2,
         hysteresis: 0,
     }
+}
+
+// The logger of an image, or the refusal: restored into a spare one, which nobody sees.
+fn resume(image: &[u8]) -> Resumed
+    ensures { λ r. ⌜ Resumes (now (image .entry)) (r .logger .state) (r .answer) ⌝ }
+{
+    let spare = Logger::fresh(plain_settings());
+    spare.restore(image)
 }
 
 // The next chunk of the samples that are left.
@@ -162,8 +171,7 @@ pub extern "C" fn pq_advance(
     ensures { λ r. ⌜ advancedTo r (now (next .exit)) (now (records .exit)) (now (reply .exit))
         ≡ advanced (now (image .entry)) (now (samples .entry)) (now (next .entry)) (now (records .entry)) (now (reply .entry)) ⌝ }
 {
-    let spare = Logger::fresh(plain_settings());
-    let resumed = spare.restore(image);
+    let resumed = resume(image);
     let answer = resumed.answer;
     let logger = resumed.logger;
     match answer {
@@ -183,6 +191,32 @@ pub extern "C" fn pq_advance(
             let told = fed.told;
             put_reply(reply, told);
             after.save(next)
+        }
+    }
+}
+
+// What advance with these samples and as much record space would reply and write: the logger of the image is fed and dropped. There is no next image.
+#[no_mangle]
+pub extern "C" fn pq_try(image: &[u8], samples: &[u8], scratch: &mut [u8], reply: &mut [u8]) -> u32
+    ensures { λ r. ⌜ blockTriedTo r (now (scratch .exit)) (now (reply .exit))
+        ≡ blockTried (now (image .entry)) (now (samples .entry)) (now (scratch .entry)) (now (reply .entry)) ⌝ }
+{
+    let resumed = resume(image);
+    let answer = resumed.answer;
+    let logger = resumed.logger;
+    match answer {
+        Acceptance::Refused(number) => number,
+        Acceptance::Accepted => {
+            if samples.len() % 2 != 0 {
+                return 12;
+            }
+            if reply.len() < REPLY_LENGTH {
+                return 13;
+            }
+            let fed = feed_chunks(logger, samples, scratch);
+            let told = fed.told;
+            put_reply(reply, told);
+            0
         }
     }
 }

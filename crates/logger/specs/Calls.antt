@@ -3,7 +3,7 @@ use Rattle.numbers.specs.Answers.{Answered}
 use Rattle.numbers.specs.Answers.Answered.{accepted, refused}
 use Rattle.settings.specs.declared.Settings.{Settings}
 use Rattle.settings.specs.Settings.{settingsRead}
-use Rattle.reading.specs.Calls.{Calls}
+use Rattle.reading.specs.Calls.{Calls, withoutLogger}
 use Rattle.state.specs.declared.State.{State}
 use Rattle.state.specs.State.{fresh, readingsOf}
 use Rattle.state.specs.Calls.{fedWith}
@@ -19,6 +19,7 @@ abbrev pub loggerCalls : Calls State
 loggerCalls = record {
   start = λ b. startedFrom (settingsRead b);
   feed = fedWith;
+  trial = λ st block lent. withoutLogger (fedWith st block lent);
   look = readingsOf;
   save = λ st lent. savedTo (saveAnswer lent) (savedBytes st lent);
   restore = restoredBy;

@@ -1,4 +1,4 @@
-// The logger: a block of samples in, records out; its readings; its image saved and restored.
+// The logger: a block of samples in, records out; a block tried; its readings; its image saved and restored.
 use image::Acceptance;
 use reading::Readings;
 use reading::Told;
@@ -7,6 +7,7 @@ use settings::SettingsRead;
 use state::State;
 ghost use mathlib.Core.Path.{_≡_};
 ghost use Rattle.settings.specs.Settings.{ValidSettings};
+ghost use Rattle.reading.specs.Calls.{trialTo};
 ghost use Rattle.state.specs.State.{fresh as freshOf, ValidState};
 ghost use Rattle.image.specs.Image.{restoredTo};
 ghost use Rattle.logger.specs.Logger.{startedTold, YieldedValid, fedTo, savedTo};
@@ -90,6 +91,15 @@ impl Logger {
             },
             told,
         }
+    }
+
+    // What feed would tell of a block, and its records into a scratch buffer: a copy is fed, and dropped.
+    pub fn trial(self, block: &[i16], scratch: &mut [u8]) -> Told
+        requires { ⌜ ValidState (self .state) ⌝ }
+        ensures { λ r. ⌜ trialTo r (now (scratch .exit)) ≡ loggerCalls .trial (self .state) (now (block .entry)) (now (scratch .entry)) ⌝ }
+    {
+        let fed = self.feed(block, scratch);
+        fed.told
     }
 
     // What look tells.

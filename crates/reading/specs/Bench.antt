@@ -21,9 +21,9 @@ use Rattle.reading.specs.Changes.{signal}
 use Rattle.reading.specs.Image.{changeNumbers, changeMark, imageOf}
 use Rattle.reading.specs.Restore.{gathererIn, valuesIn, eventsIn, restoreRefusal}
 use Rattle.reading.specs.Feed.{records}
-use Rattle.reading.specs.Engineer.{readings, emptyDesk, answer}
-use Rattle.reading.specs.Engineer.Call.{feed}
-use Rattle.reading.specs.Engineer.Answer.{fed}
+use Rattle.reading.specs.Engineer.{readings, emptyDesk, answer, answers, deskAfter}
+use Rattle.reading.specs.Engineer.Call.{feed, trial, look, save}
+use Rattle.reading.specs.Engineer.Answer.{fed, tried, looked}
 
 -- 01's settings Q, with an M, an F, a U, a T and an H
 abbrev pub qOf : ℕ → ℕ → ℕ → ℕ → ℕ → Settings
@@ -326,6 +326,29 @@ pub record BenchReadings : Type 0 where
   pub program-bytes : recordBytes (records q program) ≡ 1 ∷ 0 ∷ 0 ∷ 0 ∷ 3 ∷ 0 ∷ 0 ∷ 0 ∷ 3 ∷ 0 ∷ 0 ∷ 0 ∷ 32 ∷ 3 ∷ 0 ∷ 0 ∷ 0 ∷ 0 ∷ 0 ∷ 0 ∷ []
   pub program-count : length (values q program) ≡ 7
   pub program-without-room : answer q emptyDesk (feed program []) ≡ fed (record { taken = 55; written = 0; why = 1 }) []
+  -- 02's trial: of the program's samples, with no room it tells 55, 0, 1, with 19 bytes, too; then feed with room 64, 1, 0
+  pub tried-then-fed :
+      answers q emptyDesk (trial program [] ∷ trial program (replicate 19 7) ∷ feed program (replicate recordLength 7) ∷ [])
+      ≡ tried (record { taken = 55; written = 0; why = 1 }) []
+      ∷ tried (record { taken = 55; written = 0; why = 1 }) (replicate 19 7)
+      ∷ fed (record { taken = 64; written = 1; why = 0 }) (recordBytes (records q program)) ∷ []
+  -- between two feeds, with five bytes more than a record: it tells what the second one tells, and V stays; of an empty block it tells 0, 0, 0
+  pub tried-between :
+      answers q emptyDesk
+      (feed (take 30 program) []
+      ∷ trial (drop 30 program) (replicate (recordLength + 5) 7)
+      ∷ trial [] []
+      ∷ look
+      ∷ feed (drop 30 program) (replicate (recordLength + 5) 7) ∷ [])
+      ≡ fed (record { taken = 30; written = 0; why = 0 }) []
+      ∷ tried (record { taken = 34; written = 1; why = 0 }) (recordBytes (records q program) ++ replicate 5 7)
+      ∷ tried (record { taken = 0; written = 0; why = 0 }) []
+      ∷ looked (record { count = 2; value = 1600; sum = 0; phase = 0; dip = false; swell = false; interruption = false })
+      ∷ fed (record { taken = 34; written = 1; why = 0 }) (recordBytes (records q program) ++ replicate 5 7) ∷ []
+  -- nothing of it is kept, neither in the recording nor in a save's copy
+  pub tried-not-kept :
+      deskAfter q emptyDesk (trial program (replicate recordLength 7) ∷ save (replicate imageLength 0) ∷ trial program [] ∷ [])
+      ≡ record { recording = []; copies = [] ∷ [] }
   -- a clipped sample in a dip marks its record; −32767 is not clipped, −32768 is
   pub clipped-dip : records (qLoud 400000) (flatTop (pos 32767)) ≡ record { event = record { kind = 1; start = 3; duration = 3; first = 266793; second = 0 }; clipped = true } ∷ []
   pub clipped-bytes :

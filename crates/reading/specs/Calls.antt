@@ -1,5 +1,5 @@
--- 01, "The calls": what each is given and what it gives back, the lent bytes as it leaves them included, over whatever a logger is. A call's contract and
--- demand 3 both speak of these.
+-- 01, "The calls", and 02's trial: what each is given and what it gives back, the lent bytes as it leaves them included, over whatever a logger is. A call's
+-- contract and demand 3 both speak of these.
 use mathlib.Core.List.{List}
 use Prim.Native.Nat.{ℕ}
 use lib.IntN.{ℤ}
@@ -12,6 +12,18 @@ pub record Outcome (L : Type 0) : Type 0 where
   pub after : L
   pub told : Told
   pub bytes : List ℕ
+
+-- what a trial leaves: what feed would tell, and the scratch buffer
+pub record Trial : Type 0 where
+  pub told : Told
+  pub bytes : List ℕ
+
+abbrev pub trialTo : Told → List ℕ → Trial
+trialTo told bytes = record { told = told; bytes = bytes }
+
+-- a feed's outcome without who was fed
+abbrev pub withoutLogger : {L : Type 0} → Outcome L → Trial
+withoutLogger o = trialTo (o .told) (o .bytes)
 
 -- what a save leaves: 0 or the refusal, and the image buffer
 pub record Saved : Type 0 where
@@ -28,6 +40,8 @@ pub record Calls (L : Type 0) : Type 0 where
   pub start : List ℕ → Answered L
   -- a block of samples and a record buffer
   pub feed : L → List ℤ → List ℕ → Outcome L
+  -- a block of samples and a scratch buffer; it leaves the logger as it is
+  pub trial : L → List ℤ → List ℕ → Trial
   -- the readings
   pub look : L → Readings
   -- an image buffer

@@ -1,4 +1,4 @@
--- 01, "The engineer" of demand 3: what is kept of a list of calls, and each call's answer, read from the recording and the settings only.
+-- 01, "The engineer" of demand 3, with 02's trial: what is kept of a list of calls, and each call's answer, read from the recording and the settings only.
 use mathlib.Core.Logic.{_≢_}
 use mathlib.Core.Bool.{Bool}
 use mathlib.Core.List.{List, [], _∷_, _++_}
@@ -20,19 +20,22 @@ use Rattle.reading.specs.Records.{recordBytes}
 use Rattle.reading.specs.Image.{phaseNumber, imageOf}
 use Rattle.reading.specs.Restore.{restoreRefusal}
 use Rattle.reading.specs.Feed.{completed, taken, why}
+use Rattle.reading.specs.Calls.{Trial, trialTo}
 
--- the calls, each with the bytes that are lent to it: feed with a block and a record buffer, save with an image buffer, restore with the
--- bytes of a save, named by its number from 0 among the accepted ones, or with bytes that are refused
+-- the calls, each with the bytes that are lent to it: feed with a block and a record buffer, trial with a block and a scratch buffer, save with an
+-- image buffer, restore with the bytes of a save, named by its number from 0 among the accepted ones, or with bytes that are refused
 pub data Call : Type 0 where
   feed : List ℤ → List ℕ → Call
+  trial : List ℤ → List ℕ → Call
   look : Call
   save : List ℕ → Call
   restoreSave : ℕ → Call
   restoreRefused : List ℕ → Call
 
--- the answers, each with the lent bytes as the call leaves them: of feed what it tells; of save and restore 0, or the refusal
+-- the answers, each with the lent bytes as the call leaves them: of feed and of a trial what it tells; of save and restore 0, or the refusal
 pub data Answer : Type 0 where
   fed : Told → List ℕ → Answer
+  tried : Told → List ℕ → Answer
   looked : Readings → Answer
   saved : ℕ → List ℕ → Answer
   restored : ℕ → Answer
@@ -70,20 +73,26 @@ tooShort lent = length lent <ᵇ imageLength
 abbrev pub room : List ℕ → ℕ
 room lent = length lent / recordLength
 
--- the answer to a call. A restore that names a save is accepted
+-- what is told of a block that is fed after a recording, with lent bytes as its record space, and those bytes then
+abbrev pub fedAfter : Settings → List ℤ → List ℤ → List ℕ → Trial
+fedAfter s rec block lent =
+    let n = taken s rec block (room lent) in
+    let written = completed s rec block n in
+    trialTo (record { taken = n; written = length written; why = why s rec block n }) (over (recordBytes written) lent)
+
+-- the answer to a call. A trial tells what feed would, with the scratch buffer as its record space; a restore that names a save is accepted
 abbrev pub answer : Settings → Desk → Call → Answer
-answer s d (feed block lent) =
-    let n = taken s (d .recording) block (room lent) in
-    let written = completed s (d .recording) block n in
-    fed (record { taken = n; written = length written; why = why s (d .recording) block n }) (over (recordBytes written) lent)
+answer s d (feed block lent) = let r = fedAfter s (d .recording) block lent in fed (r .told) (r .bytes)
+answer s d (trial block lent) = let r = fedAfter s (d .recording) block lent in tried (r .told) (r .bytes)
 answer s d look = looked (readings s (values s (d .recording)))
 answer s d (save lent) = if tooShort lent then saved 7 lent else saved 0 (over (imageOf s (d .recording)) lent)
 answer s d (restoreSave j) = restored 0
 answer s d (restoreRefused bytes) = restored (restoreRefusal bytes)
 
--- what is kept after it: a restore that names a save sets the recording back, a refused call changes nothing
+-- what is kept after it: a restore that names a save sets the recording back; a trial and a refused call change nothing
 abbrev pub deskWith : Settings → Desk → Call → Desk
 deskWith s d (feed block lent) = record { recording = d .recording ++ take (taken s (d .recording) block (room lent)) block; copies = d .copies }
+deskWith s d (trial block lent) = d
 deskWith s d look = d
 deskWith s d (save lent) = if tooShort lent then d else record { recording = d .recording; copies = d .copies ++ (d .recording ∷ []) }
 deskWith s d (restoreSave j) = record { recording = getD (d .copies) j []; copies = d .copies }
@@ -104,6 +113,7 @@ deskAfter s d (c ∷ cs) = deskAfter s (deskWith s d c) cs
 abbrev pub WellFormed : ℕ → List Call → Type 0
 WellFormed n [] = Unit {0}
 WellFormed n (feed block lent ∷ cs) = Samples block × Bytes lent × WellFormed n cs
+WellFormed n (trial block lent ∷ cs) = Samples block × Bytes lent × WellFormed n cs
 WellFormed n (look ∷ cs) = WellFormed n cs
 WellFormed n (save lent ∷ cs) = Bytes lent × WellFormed (if tooShort lent then n else suc n) cs
 WellFormed n (restoreSave j ∷ cs) = (j < n) × WellFormed n cs

@@ -60,7 +60,7 @@ eventsOffset = valuesOffset + valuesLength
 abbrev pub imageLength : ℕ
 imageLength = eventsOffset + eventsLength
 
--- advance's reply: taken, written, why
+-- the reply of advance and of try: taken, written, why
 abbrev pub replyWidths : List ℕ
 replyWidths = 8 ∷ 8 ∷ 8 ∷ []
 

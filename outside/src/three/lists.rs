@@ -10,7 +10,7 @@ use super::logger::Logger;
 use super::program::HIGH;
 use super::seen::{Marks, Stands};
 use super::{waves, Looked};
-use crate::call_lists::{buffer, List};
+use crate::call_lists::{buffer, fed_line, printed, List, FEED, LOOK, START};
 use crate::engineer::Fed;
 use crate::rng::{one_of, Rng};
 use crate::room::RECORD;
@@ -23,11 +23,6 @@ const MOST_SAMPLES: usize = 32_766;
 /// they have everything that is counted.
 const FILES_SEED: u64 = 1;
 const FILES_LISTS: [u64; 10] = [871, 1027, 4232, 4323, 4466, 7760, 7844, 8300, 11089, 11386];
-
-/// The kinds of item, in the program's numbers.
-const START: u8 = 0;
-const FEED: u8 = 1;
-const LOOK: u8 = 2;
 
 /// What has been seen.
 #[derive(Default)]
@@ -93,10 +88,7 @@ impl Tally {
 /// The line of a feed: what it tells, or its refusal, and the buffer of this length as it leaves it.
 fn feed_line(answer: &Result<(Fed, Vec<u8>), u32>, length: usize, fill: u8) -> String {
     match answer {
-        Ok((fed, records)) => {
-            let told = format!("feed {} {} {}", fed.taken, fed.written, fed.why);
-            format!("{told} {}\n", buffer(length, fill, records))
-        }
+        Ok((fed, records)) => fed_line("feed", fed, &buffer(length, fill, records)) + "\n",
         Err(number) => format!("refused {number} {}\n", buffer(length, fill, &[])),
     }
 }
@@ -295,41 +287,15 @@ pub fn files(seen: &mut Tally) -> List {
     all
 }
 
-/// One item, and the input after it; none where the input has no whole one.
-fn next_item(input: &[u8]) -> Option<(u8, u8, usize, &[u8], &[u8])> {
-    let (&[kind, fill, a, b, c, d], rest) = input.split_first_chunk::<6>()?;
-    let (number, length) = (u16::from_le_bytes([a, b]), u16::from_le_bytes([c, d]));
-    let (bytes, rest) = rest.split_at_checked(length as usize)?;
-    Some((kind, fill, number as usize, bytes, rest))
-}
-
 /// What the program prints on any input, by the logger.
-pub fn by_logger(mut input: &[u8]) -> String {
-    let mut text = String::new();
-    while let Some((START, _, calls, settings, rest)) = next_item(input) {
-        input = rest;
-        let mut logger = match Logger::start(settings) {
-            Ok(logger) => logger,
-            Err(number) => {
-                text += &format!("refused {number}\n");
-                continue;
-            }
-        };
-        text += "start\n";
-        for _ in 0..calls {
-            let Some((kind, fill, number, bytes, rest)) = next_item(input) else { return text };
-            input = rest;
-            match kind {
-                FEED => {
-                    let mut room = vec![fill; number];
-                    let fed = logger.feed(bytes.as_chunks::<2>().0, &mut room);
-                    let answer = fed.map(|fed| (fed, room));
-                    text += &feed_line(&answer, number, fill);
-                }
-                LOOK => text += &look_line(&logger.look()),
-                _ => {}
-            }
+pub fn by_logger(input: &[u8]) -> String {
+    printed(input, Logger::start, |logger, (kind, fill, number, bytes, _)| match kind {
+        FEED => {
+            let mut room = vec![fill; number];
+            let fed = logger.feed(bytes.as_chunks::<2>().0, &mut room);
+            feed_line(&fed.map(|fed| (fed, room)), number, fill)
         }
-    }
-    text
+        LOOK => look_line(&logger.look()),
+        _ => String::new(),
+    })
 }

@@ -1,5 +1,5 @@
 //! One feed through the engineer, the logger and every host (with the feature, the proved library
-//! too), which must agree in every byte.
+//! too), which must agree in every byte; and before it a trial of the same block.
 
 // No test uses all of it.
 #![allow(dead_code)]
@@ -30,21 +30,25 @@ pub fn feed(settings: [u32; 9], samples: &[i16], room: usize) -> Left {
     let mut engineer = Engineer::start(&bytes(settings)).unwrap();
     let mut logger = Logger::start(&bytes(settings)).unwrap();
     let (fed, records) = engineer.feed(samples, room);
-    let mut buffer = vec![0; room];
+    let (mut scratch, mut buffer) = (vec![0; room], vec![0; room]);
     let block = waves::bytes(samples);
+    assert_eq!(logger.trial(block.as_chunks::<2>().0, &mut scratch), fed);
     assert_eq!(logger.feed(block.as_chunks::<2>().0, &mut buffer), fed);
     assert_eq!(buffer[..records.len()], records[..]);
+    assert_eq!(scratch, buffer);
     assert_eq!(logger.look(), engineer.look());
     let mut image = [0; IMAGE];
     logger.save(&mut image).unwrap();
     assert_eq!(image[..], engineer.image()[..]);
     for host in hosts() {
         let (mut fresh, mut image, mut reply) = ([0; IMAGE], [0; IMAGE], [0; 24]);
-        let mut buffer = vec![0; room];
+        let (mut scratch, mut buffer, mut told) = (vec![0; room], vec![0; room], [0; 24]);
         assert_eq!((host.begin)(&bytes(settings), &mut fresh), 0);
+        assert_eq!((host.trial)(&fresh, &block, &mut scratch, &mut told), 0);
         assert_eq!((host.advance)(&fresh, &block, &mut image, &mut buffer, &mut reply), 0);
         assert_eq!(image[..], engineer.image()[..], "{}", host.name);
         assert_eq!(buffer[..records.len()], records[..], "{}", host.name);
+        assert_eq!((scratch, told), (buffer, reply), "{}", host.name);
         let told = [fed.taken, fed.written, fed.why].map(u64::to_le_bytes).concat();
         assert_eq!(reply[..], told[..], "{}", host.name);
     }

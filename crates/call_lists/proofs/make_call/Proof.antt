@@ -10,14 +10,14 @@ use Rattle.call_lists.proofs.make_call.Tie as tie
 cast-number : tie.Need-cast-number
 cast-number c = search needs
 
-slice-relend-prefix-feed : tie.Need-slice-relend-prefix-feed
-slice-relend-prefix-feed c = search needs
+slice-relend-prefix-feed-or-try : tie.Need-slice-relend-prefix-feed-or-try
+slice-relend-prefix-feed-or-try c = search needs
 
-slice-aggregate-feed : tie.Need-slice-aggregate-feed
-slice-aggregate-feed c = sym (length-take-le _ _ (search needs))
+slice-aggregate-feed-or-try : tie.Need-slice-aggregate-feed-or-try
+slice-aggregate-feed-or-try c = sym (length-take-le _ _ (search needs))
 
-feed-requires : tie.Need-feed-requires
-feed-requires c κs = (search needs, search needs, simp length-take (omega arith))
+feed-or-try-requires : tie.Need-feed-or-try-requires
+feed-or-try-requires c κs = (search needs, search needs, simp length-take (omega arith))
 
 same-length : tie.Need-same-length
 same-length c = search needs
@@ -78,9 +78,9 @@ make-call-spec =
     tie.close
     (tie.spec
     cast-number
-    slice-relend-prefix-feed
-    slice-aggregate-feed
-    feed-requires
+    slice-relend-prefix-feed-or-try
+    slice-aggregate-feed-or-try
+    feed-or-try-requires
     same-length
     returns
     slice-relend-prefix-save

@@ -4,14 +4,8 @@ use Rattle.host.proofs.Answers.{image-refused, odd-refused, next-refuse
 use Rattle.host.proofs.pq_advance.Statement.{statement}
 use Rattle.host.proofs.pq_advance.Tie as tie
 
-plain-settings-requires : tie.Need-plain-settings-requires
-plain-settings-requires c κs = search needs
-
-fresh-requires : tie.Need-fresh-requires
-fresh-requires c κs = search needs
-
-restore-requires : tie.Need-restore-requires
-restore-requires c κs = search needs
+resume-requires : tie.Need-resume-requires
+resume-requires c κs = search needs
 
 enum-known-answer : tie.Need-enum-known-answer
 enum-known-answer c = search needs
@@ -22,38 +16,29 @@ enum-told c = search needs
 returns : tie.Need-returns
 returns c =
     let at-enum-told = c .before in
-    let at-restore = at-enum-told .before .before .before in
-    let at-fresh = at-restore .before in
-    let start = at-fresh .before .before .before .before .before .before .before in
-    let a = start .args in
-    let r = at-restore .restore in
+    let at-resume = at-enum-told .before .before .before in
+    let a = at-resume .before .before .before .before .before .before .args in
     odd-refused (a .image .now) (a .samples .now) (a .next .now) (a .records .now) (a .reply .now)
-    (at-fresh .fresh .result .state) (r .result .logger .state) (r .result .answer) (r .ensures .0) (at-enum-told .enum-told .given .1) (c .if1 .taken)
+    (at-resume .resume .ensures) (at-enum-told .enum-told .given .1) (c .if1 .taken)
 
 returns-2 : tie.Need-returns-2
 returns-2 c =
     let first = c .before in
     let at-enum-told = first .before in
-    let at-restore = at-enum-told .before .before .before in
-    let at-fresh = at-restore .before in
-    let start = at-fresh .before .before .before .before .before .before .before in
-    let a = start .args in
-    let r = at-restore .restore in
+    let at-resume = at-enum-told .before .before .before in
+    let a = at-resume .before .before .before .before .before .before .args in
     next-refused (a .image .now) (a .samples .now) (a .next .now) (a .records .now) (a .reply .now)
-    (at-fresh .fresh .result .state) (r .result .logger .state) (r .result .answer) (r .ensures .0) (at-enum-told .enum-told .given .1) (first .if1 .left) (c .if2 .taken)
+    (at-resume .resume .ensures) (at-enum-told .enum-told .given .1) (first .if1 .left) (c .if2 .taken)
 
 returns-3 : tie.Need-returns-3
 returns-3 c =
     let second = c .before in
     let first = second .before in
     let at-enum-told = first .before in
-    let at-restore = at-enum-told .before .before .before in
-    let at-fresh = at-restore .before in
-    let start = at-fresh .before .before .before .before .before .before .before in
-    let a = start .args in
-    let r = at-restore .restore in
+    let at-resume = at-enum-told .before .before .before in
+    let a = at-resume .before .before .before .before .before .before .args in
     reply-refused (a .image .now) (a .samples .now) (a .next .now) (a .records .now) (a .reply .now)
-    (at-fresh .fresh .result .state) (r .result .logger .state) (r .result .answer) (r .ensures .0) (at-enum-told .enum-told .given .1) (first .if1 .left) (second .if2 .left) (c .if3 .taken)
+    (at-resume .resume .ensures) (at-enum-told .enum-told .given .1) (first .if1 .left) (second .if2 .left) (c .if3 .taken)
 
 feed-chunks-requires : tie.Need-feed-chunks-requires
 feed-chunks-requires c κs = search needs
@@ -67,13 +52,10 @@ save-requires c κs = search needs
 returns-4 : tie.Need-returns-4
 returns-4 c =
     let at-answer = c .before in
-    let at-restore = at-answer .before .before .before in
-    let at-fresh = at-restore .before in
-    let start = at-fresh .before .before .before .before .before .before .before in
-    let a = start .args in
-    let r = at-restore .restore in
+    let at-resume = at-answer .before .before .before in
+    let a = at-resume .before .before .before .before .before .before .args in
     image-refused (a .image .now) (a .samples .now) (a .next .now) (a .records .now) (a .reply .now)
-    (at-fresh .fresh .result .state) (r .result .logger .state) (r .result .answer) (r .ensures .0) _ (at-answer .answer .given .1)
+    (at-resume .resume .ensures) _ (at-answer .answer .given .1)
 
 same-length : tie.Need-same-length
 same-length c = search needs
@@ -93,23 +75,18 @@ returns-5 c =
     let second = third .before in
     let first = second .before in
     let at-enum-told = first .before in
-    let at-restore = at-enum-told .before .before .before in
-    let at-fresh = at-restore .before in
-    let start = at-fresh .before .before .before .before .before .before .before in
-    let a = start .args in
-    let r = at-restore .restore in
+    let at-resume = at-enum-told .before .before .before in
+    let a = at-resume .before .before .before .before .before .before .args in
     let fed = at-feed-chunks .feed-chunks in
     all-done (a .image .now) (a .samples .now) (a .next .now) (a .records .now) (a .reply .now)
-    (at-fresh .fresh .result .state) (r .result .logger .state) (r .result .answer) (r .ensures .0) (at-enum-told .enum-told .given .1) (first .if1 .left) (second .if2 .left) (third .if3 .left)
+    (at-resume .resume .ensures) (at-enum-told .enum-told .given .1) (first .if1 .left) (second .if2 .left) (third .if3 .left)
     (fed .result .logger .state) (fed .result .told) _ _ _ _ (fed .ensures) (at-put-reply .put-reply .ensures) (at-save .save .ensures)
 
 pub pq-advance-spec : {M : Type 1} → statement M
 pq-advance-spec =
     tie.close
     (tie.spec
-    plain-settings-requires
-    fresh-requires
-    restore-requires
+    resume-requires
     enum-known-answer
     enum-told
     returns
