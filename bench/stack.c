@@ -16,6 +16,7 @@ static ucontext_t here, there;
 /* Arguments and buffers of the call to measure. */
 static uint8_t settings[PQ_SETTINGS_SIZE], image[2][PQ_IMAGE_SIZE], reply[PQ_REPLY_SIZE];
 static uint8_t samples[PQ_SAMPLE_SIZE * SAMPLES], records[PQ_RECORD_SIZE * 1000], day_reply[PQ_DAY_REPLY_SIZE];
+static uint8_t earlier_image[PQ_EARLIER_IMAGE_SIZE], earlier_records[PQ_EARLIER_RECORD_SIZE * 1000];
 static size_t image_length = PQ_IMAGE_SIZE, samples_length;
 static uint32_t number;
 
@@ -40,6 +41,26 @@ static void try_block(void)
 static void count_day(void)
 {
     number = pq_count_day(settings, sizeof settings, records, sizeof records, 0, 0, 0, day_reply, sizeof day_reply);
+}
+
+static void convert_image_back(void)
+{
+    number = pq_convert_image_back(image[1], image_length, earlier_image, sizeof earlier_image);
+}
+
+static void convert_image(void)
+{
+    number = pq_convert_image(earlier_image, sizeof earlier_image, image[1], sizeof image[1]);
+}
+
+static void convert_records_back(void)
+{
+    number = pq_convert_records_back(records, sizeof records, earlier_records, sizeof earlier_records);
+}
+
+static void convert_records(void)
+{
+    number = pq_convert_records(earlier_records, sizeof earlier_records, records, sizeof records);
 }
 
 /* Bytes of stack that a function touches. */
@@ -101,13 +122,22 @@ int main(void)
     }
     tell("advance, full of events", advance, PQ_OK);
     tell("try, full of events", try_block, PQ_OK);
+    tell("convert an image back, full of events", convert_image_back, PQ_OK);
+    tell("convert an image, full of events", convert_image, PQ_OK);
     samples_length = 2 * 8;
     tell("advance, one half-cycle", advance, PQ_OK);
     image_length = 1;
     tell("advance, refused", advance, PQ_REFUSED_IMAGE_LENGTH);
+    tell("convert an image back, refused", convert_image_back, PQ_REFUSED_CONVERSION);
+    memset(records, 0, sizeof records);
     for (size_t j = 0; j < sizeof records; j += PQ_RECORD_SIZE)
         records[j] = PQ_CHANGE;
     tell("count of a day, 1000 records", count_day, PQ_OK);
+    tell("convert 1000 records back", convert_records_back, PQ_OK);
+    tell("convert 1000 records", convert_records, PQ_OK);
+    records[0] = 5;
+    tell("convert 1000 records back, refused", convert_records_back, PQ_REFUSED_CONVERSION);
+    records[0] = PQ_CHANGE;
     settings[0] = 7;
     tell("count of a day, refused", count_day, PQ_REFUSED_SAMPLES);
     return 0;

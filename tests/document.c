@@ -11,9 +11,9 @@
 static uint8_t recording[1 << 20];
 
 /* Puts the channel at the value V. It has never yet been steady: then any values may stand before. */
-static void put_values(struct meter *meter, uint32_t values)
+static void put_values(struct meter *meter, uint64_t values)
 {
-    pq_put_u32(meter->images[meter->now] + PQ_IMAGE_VALUES, values);
+    pq_put_u64(meter->images[meter->now] + PQ_IMAGE_VALUES, values);
     pq_put_u32(meter->images[meter->now] + PQ_IMAGE_PHASE, 1);
 }
 
@@ -38,7 +38,7 @@ int main(int count, char **words)
     if (count == 4) {
         at += 2 * PQ_SAMPLE_SIZE * pq_get_u32(recording + PQ_SETTINGS_SAMPLES);
         feed(&meter, recording + PQ_SETTINGS_SIZE, at - PQ_SETTINGS_SIZE, block);
-        put_values(&meter, (uint32_t)strtoul(words[3], NULL, 10));
+        put_values(&meter, strtoull(words[3], NULL, 10));
     }
     feed(&meter, recording + at, length - at, block);
     return 0;

@@ -2,7 +2,7 @@
  *
  *   FAULT=CALL:NUMBER:WHAT
  *
- * CALL is open, read, write, lseek, fsync, close, rename or ftruncate. NUMBER counts the program's calls from 1;
+ * CALL is open, read, write, lseek, fsync, close, rename, ftruncate or exit. NUMBER counts the program's calls from 1;
  * 'odd' is every second call, so that each one that is tried again goes through; 'all' is each call.
  * WHAT is one of
  *   EIO, ENOSPC, ..   the call fails with this error and does nothing
@@ -10,7 +10,8 @@
  *   kill, half-kill   the program is killed before the call, or after half the bytes
  *   unsynced          the call fails with EIO if a power failure now could lose what it should not: a
  *                     rename, something written; a close, something written into this file; a read
- *                     of standard input, the new name of a file that was made or renamed
+ *                     of standard input, the new name of a file that was made or renamed; an exit,
+ *                     which then has the status 5, EIO's number, such a name, too
  * x86-64, Linux. */
 #include <errno.h>
 #include <fcntl.h>
@@ -173,4 +174,12 @@ int ftruncate(int file, off_t length)
     const char *what = fault("ftruncate", ++number);
     unsynced |= 1UL << file;
     return (int)(what ? fail(what) : syscall(SYS_ftruncate, file, length));
+}
+
+/* The end of the program, by exit or by main's return. */
+__attribute__((destructor)) static void ended(void)
+{
+    const char *what = fault_if("exit", 1, count > 0);
+    if (what != NULL && fail(what) != 0)
+        _exit(errno);
 }

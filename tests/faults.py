@@ -1,11 +1,11 @@
 #!/usr/bin/env python3
-"""Runs the example host, and the event programs, while their reads and writes fail, and holds what they print to what they should.
+"""Runs the example host, convert beside it, and the event programs, while their reads and writes fail, and holds what they print to what they should.
 
     python3 tests/faults.py LOG [EVENT_PROGRAM [EVENT_PROGRAM_OF_THREE]]
 
-They print the same, but for the word behind a clipped record's line, which only the host prints; they differ in the bytes read at a time and in the status
-after a failure, which the event programs do not have. The event program of three channels is given each sample three times: three equal channels have the records
-of one.
+LOG and the event programs print the same, but for the word behind a clipped record's line, which only the host prints; they differ in the bytes read at a time
+and in the status after a failure, which the event programs do not have. The event program of three channels is given each sample three times: three equal
+channels have the records of one.
 """
 import fcntl
 import itertools
@@ -20,7 +20,10 @@ sys.dont_write_bytecode = True
 from runs import KILLED, Channel, environment, example, preload, read, recordings, work_folder, write
 
 SETTINGS = 36
-TEXTS = {"EIO": "Input/output error", "ENOSPC": "No space left on device", "EPIPE": "Broken pipe", "EBADF": "Bad file descriptor", "EACCES": "Permission denied", "EISDIR": "Is a directory"}
+TEXTS = {
+    "EIO": "Input/output error", "ENOSPC": "No space left on device", "EPIPE": "Broken pipe",
+    "EBADF": "Bad file descriptor", "EACCES": "Permission denied", "EISDIR": "Is a directory",
+}
 cases = 0
 
 
@@ -256,6 +259,41 @@ def no_files(channel):
         same("log: no STATE", os.path.exists(channel.state), False)
 
 
+def converts(path, library, folder):
+    """convert: a call that fails ends it with 2, one where it is killed ends it; either way OUT is as it was or whole, and one more run makes it whole. Nothing
+    is renamed, or closed, before it is synced, and at its end OUT's folder is."""
+    before = b"what was there"
+    records = b"".join(struct.pack("<B3x4I", kind, 151, 1, 6368, 6368) for kind in (1, 2, 3, 4))
+    converted = b"".join(struct.pack("<B3x2Q2I", kind, 151, 1, 6368, 6368) for kind in (1, 2, 3, 4))
+    earlier, out = write(os.path.join(folder, "earlier"), records), os.path.join(folder, "out")
+
+    def run(fault=None):
+        done = subprocess.run([path, "records", earlier, out], capture_output=True, env=environment(library, fault))
+        return done.returncode, done.stdout, done.stderr.decode()
+
+    for call, what in (
+        ("open", "EACCES"), ("read", "EIO"), ("write", "ENOSPC"), ("fsync", "EIO"), ("close", "EIO"), ("rename", "EIO"),
+        ("open", "kill"), ("write", "kill"), ("write", "half-kill"), ("fsync", "kill"), ("close", "kill"), ("rename", "kill"),
+    ):
+        for number in itertools.count(1):
+            fault = f"{call}:{number}:{what}"
+            write(out, before)
+            status, text, said = run(fault)
+            if status == 0:
+                same(f"convert: {call} {number - 1} was the last", (number > 1, read(out), said), (True, converted, ""))
+                break
+            if what in TEXTS:
+                same(f"convert: {fault}", (status, text, said[:9], said.split(": ")[2:]), (2, b"", "convert: ", [TEXTS[what] + "\n"]))
+            else:
+                same(f"convert: {fault}", status, KILLED)
+            # The last open, fsync and close are those of the folder, behind the rename.
+            same(f"convert: {fault}, OUT", read(out) in ((before, converted) if call in ("open", "fsync", "close") else (before,)), True)
+            same(f"convert: after {fault}", (*run(), read(out)), (0, b"", "", converted))
+    for fault in "read:odd:half", "write:odd:half", "rename:all:unsynced", "close:all:unsynced", "exit:all:unsynced":
+        write(out, before)
+        same(f"convert: {fault}", (*run(fault), read(out)), (0, b"", "", converted))
+
+
 def main():
     if len(sys.argv) not in (2, 3, 4):
         sys.exit(__doc__)
@@ -278,6 +316,7 @@ def main():
         safe(channel, text)
         odd_byte(channel)
         no_files(channel)
+        converts(os.path.join(os.path.dirname(os.path.abspath(log.path)), "convert"), library, folder)
         for program in programs[1:]:
             not_ended(program)
     print(f"faults: {cases} cases as they should be")

@@ -36,6 +36,19 @@ static void same_bytes(const char *what, const uint8_t *want, const uint8_t *got
     }
 }
 
+/* V's end, and the greatest number that the earlier edition has. */
+#define LAST_VALUE UINT64_C(9223372036854775807)
+#define EARLIER_MOST UINT64_C(4294967295)
+
+/* This edition and the earlier one, as indices: their tables of contents, and the record of the bench reading in check_change. */
+enum { THIS, EARLIER };
+static const uint8_t tables[2][32] = {
+    {1, 0, 0, 0, 32, 0, 36, 0, 2, 0, 0, 0, 68, 0, 32, 0, 3, 0, 0, 0, 100, 0, 0x60, 0x02, 4, 0, 0, 0, 0xc4, 0x02, 80, 0},
+    {1, 0, 0, 0, 32, 0, 36, 0, 2, 0, 0, 0, 68, 0, 32, 0, 3, 0, 0, 0, 100, 0, 0x5c, 0x02, 4, 0, 0, 0, 0xc0, 0x02, 60, 0},
+};
+static const uint8_t change_record[PQ_RECORD_SIZE] = {4, 0, 0, 0, 0x97, 0, 0, 0, 0, 0, 0, 0, 1, 0, 0, 0, 0, 0, 0, 0, 0xe0, 0x18, 0, 0, 0xe0, 0x18, 0, 0};
+static const uint8_t earlier_change_record[PQ_EARLIER_RECORD_SIZE] = {4, 0, 0, 0, 0x97, 0, 0, 0, 1, 0, 0, 0, 0xe0, 0x18, 0, 0, 0xe0, 0x18, 0, 0};
+
 /* A name of pq.h is this number. */
 #define IS(name, want) same(#name, want, name)
 
@@ -48,6 +61,12 @@ static size_t written;
 static uint32_t number_at(int place)
 {
     return pq_get_u32(images[now] + place);
+}
+
+/* V, k or a start. */
+static uint64_t wide_at(int place)
+{
+    return pq_get_u64(images[now] + place);
 }
 
 /* Settings of 8 samples in a half-cycle. */
@@ -117,24 +136,24 @@ static void check_events(void)
     go_on(16, 100);
     go_on(13, 50);
     same("count, 37 samples", 5, number_at(PQ_IMAGE_COUNT));
-    same("values", 3, number_at(PQ_IMAGE_VALUES));
+    same("values", 3, wide_at(PQ_IMAGE_VALUES));
     same("oldest value", 1600, number_at(PQ_IMAGE_KEPT));
     same("newest value", 1264, pq_newest_value(images[now]));
     same("newest value kept", 1264, number_at(PQ_IMAGE_KEPT + 4 * 2));
     same("phase, few values", 0, number_at(PQ_IMAGE_PHASE));
-    same("dip", 3, number_at(PQ_IMAGE_DIP));
+    same("dip", 3, wide_at(PQ_IMAGE_DIP));
     same("dip so far", 1264, number_at(PQ_IMAGE_DIP_MAGNITUDE));
     go_on(3, 50);
     go_on(16, 0);
     same("dip at 0", 0, number_at(PQ_IMAGE_DIP_MAGNITUDE));
-    same("interruption", 6, number_at(PQ_IMAGE_INTERRUPTION));
+    same("interruption", 6, wide_at(PQ_IMAGE_INTERRUPTION));
     same("interruption so far", 0, number_at(PQ_IMAGE_INTERRUPTION_MAGNITUDE));
     go_on(16, 1);
     same("an interruption's least value", 0, number_at(PQ_IMAGE_INTERRUPTION_MAGNITUDE));
     go_on(16, 120);
-    same("no dip", 0, number_at(PQ_IMAGE_DIP));
-    same("no interruption", 0, number_at(PQ_IMAGE_INTERRUPTION));
-    same("swell", 10, number_at(PQ_IMAGE_SWELL));
+    same("no dip", 0, wide_at(PQ_IMAGE_DIP));
+    same("no interruption", 0, wide_at(PQ_IMAGE_INTERRUPTION));
+    same("swell", 10, wide_at(PQ_IMAGE_SWELL));
     same("swell so far", 1920, number_at(PQ_IMAGE_SWELL_MAGNITUDE));
 }
 
@@ -144,13 +163,14 @@ static void check_change(void)
     begin(50);
     go_on(8 * 150, 100);
     same("phase, steady", 2, number_at(PQ_IMAGE_PHASE));
-    same("no change", 0, number_at(PQ_IMAGE_CHANGE));
+    same("no change", 0, wide_at(PQ_IMAGE_CHANGE));
     go_on(8 * 2, 96);
     same("phase, in a change", 3, number_at(PQ_IMAGE_PHASE));
-    same("change", 151, number_at(PQ_IMAGE_CHANGE));
+    same("change", 151, wide_at(PQ_IMAGE_CHANGE));
     same("newest of a full window", 1536, pq_newest_value(images[now]));
     go_on(8 * 101, 96);
     same("records", 1, written);
+    same_bytes("a change's record", change_record, records[0], sizeof change_record);
     struct pq_record last = pq_get_record(records[0]);
     same("kind", PQ_CHANGE, last.kind);
     same("clipped", 0, last.clipped);
@@ -168,17 +188,19 @@ static void check_change(void)
 
 static void check_lengths(void)
 {
-    IS(PQ_VERSION_MAJOR, 2);
-    IS(PQ_VERSION_MINOR, 3);
+    IS(PQ_VERSION_MAJOR, 3);
+    IS(PQ_VERSION_MINOR, 0);
     IS(PQ_VERSION_PATCH, 0);
-    same_text("PQ_VERSION", "2.3.0", PQ_VERSION);
+    same_text("PQ_VERSION", "3.0.0", PQ_VERSION);
     IS(PQ_SETTINGS_SIZE, 36);
-    IS(PQ_IMAGE_SIZE, 764);
+    IS(PQ_IMAGE_SIZE, 788);
     IS(PQ_SAMPLE_SIZE, 2);
-    IS(PQ_RECORD_SIZE, 20);
+    IS(PQ_RECORD_SIZE, 28);
     IS(PQ_REPLY_SIZE, 24);
     IS(PQ_DAY_REPLY_SIZE, 32);
-    IS(PQ_RECORDS_ENOUGH, 80);
+    IS(PQ_EARLIER_IMAGE_SIZE, 764);
+    IS(PQ_EARLIER_RECORD_SIZE, 20);
+    IS(PQ_RECORDS_ENOUGH, 112);
 }
 
 static void check_places(void)
@@ -195,9 +217,9 @@ static void check_places(void)
     IS(PQ_RECORD_KIND, 0);
     IS(PQ_RECORD_CLIPPED, 1);
     IS(PQ_RECORD_START, 4);
-    IS(PQ_RECORD_DURATION, 8);
-    IS(PQ_RECORD_FIRST, 12);
-    IS(PQ_RECORD_SECOND, 16);
+    IS(PQ_RECORD_DURATION, 12);
+    IS(PQ_RECORD_FIRST, 20);
+    IS(PQ_RECORD_SECOND, 24);
     IS(PQ_REPLY_TAKEN, 0);
     IS(PQ_REPLY_WRITTEN, 8);
     IS(PQ_REPLY_WHY, 16);
@@ -215,21 +237,21 @@ static void check_image_places(void)
     IS(PQ_IMAGE_HALF_CLIPPED, 92);
     IS(PQ_IMAGE_LAST_CLIPPED, 96);
     IS(PQ_IMAGE_VALUES, 100);
-    IS(PQ_IMAGE_KEPT, 104);
+    IS(PQ_IMAGE_KEPT, 108);
     IS(PQ_IMAGE_KEPT_PLACES, 120);
-    IS(PQ_IMAGE_KEPT_CLIPPED, 584);
-    IS(PQ_IMAGE_PHASE, 704);
-    IS(PQ_IMAGE_CHANGE, 708);
-    IS(PQ_IMAGE_DIP, 724);
-    IS(PQ_IMAGE_DIP_MAGNITUDE, 728);
-    IS(PQ_IMAGE_SWELL, 732);
-    IS(PQ_IMAGE_SWELL_MAGNITUDE, 736);
-    IS(PQ_IMAGE_INTERRUPTION, 740);
-    IS(PQ_IMAGE_INTERRUPTION_MAGNITUDE, 744);
-    IS(PQ_IMAGE_DIP_CLIPPED, 748);
-    IS(PQ_IMAGE_SWELL_CLIPPED, 752);
-    IS(PQ_IMAGE_INTERRUPTION_CLIPPED, 756);
-    IS(PQ_IMAGE_CHANGE_CLIPPED, 760);
+    IS(PQ_IMAGE_KEPT_CLIPPED, 588);
+    IS(PQ_IMAGE_PHASE, 708);
+    IS(PQ_IMAGE_CHANGE, 712);
+    IS(PQ_IMAGE_DIP, 736);
+    IS(PQ_IMAGE_DIP_MAGNITUDE, 744);
+    IS(PQ_IMAGE_SWELL, 748);
+    IS(PQ_IMAGE_SWELL_MAGNITUDE, 756);
+    IS(PQ_IMAGE_INTERRUPTION, 760);
+    IS(PQ_IMAGE_INTERRUPTION_MAGNITUDE, 768);
+    IS(PQ_IMAGE_DIP_CLIPPED, 772);
+    IS(PQ_IMAGE_SWELL_CLIPPED, 776);
+    IS(PQ_IMAGE_INTERRUPTION_CLIPPED, 780);
+    IS(PQ_IMAGE_CHANGE_CLIPPED, 784);
 }
 
 static void check_enumerators(void)
@@ -258,6 +280,8 @@ static void check_enumerators(void)
     IS(PQ_REFUSED_Z, 15);
     IS(PQ_REFUSED_RECORDS, 16);
     IS(PQ_REFUSED_KIND, 17);
+    IS(PQ_REFUSED_WIDE, 18);
+    IS(PQ_REFUSED_CONVERSION, 19);
 }
 
 static void check_texts(void)
@@ -270,8 +294,8 @@ static void check_texts(void)
         "settings: U, the declared voltage, is not 16 to 524288",
         "settings: T is not 50 to 600, or H is not below T",
         "settings: I, D, W or G is out of range or out of order",
-        "fewer than 764 bytes to write the image into",
-        "the image is not 764 bytes",
+        "too few bytes to write the image or the converted records into",
+        "the image is not 788 bytes",
         "the image has another table of contents",
         "the image has settings that are out of range",
         "the image has another part that cannot be",
@@ -279,8 +303,10 @@ static void check_texts(void)
         "too few bytes to write the reply into",
         "no call refuses with this number",
         "z, half-cycles from midnight to value 0, is a day or more",
-        "the records are not a multiple of 20 bytes",
+        "the records are not a multiple of 28 bytes",
         "a record has a kind other than 1 to 4",
+        "a number is above 4294967295, the earlier edition's greatest",
+        "not a good image, or not whole records, of the edition that is converted from",
         "no call refuses with this number",
     };
     for (uint32_t number = 0; number < sizeof texts / sizeof texts[0]; number++)
@@ -324,16 +350,17 @@ static uint32_t answer(int place, uint32_t number, size_t image_length, size_t s
 
 static void check_refused_calls(void)
 {
-    same("as it is", PQ_OK, answer(PQ_IMAGE_COUNT, 0, 764, 2, 764, 24));
-    same("short image", PQ_REFUSED_IMAGE_LENGTH, answer(PQ_IMAGE_COUNT, 0, 763, 2, 764, 24));
-    same("long image", PQ_REFUSED_IMAGE_LENGTH, answer(PQ_IMAGE_COUNT, 0, 765, 2, 764, 24));
-    same("an image of version 1", PQ_REFUSED_IMAGE_LENGTH, answer(PQ_IMAGE_COUNT, 0, 620, 2, 764, 24));
-    same("another table", PQ_REFUSED_IMAGE_TABLE, answer(0, 0, 764, 2, 764, 24));
-    same("other settings", PQ_REFUSED_IMAGE_SETTINGS, answer(PQ_IMAGE_SETTINGS, 7, 764, 2, 764, 24));
-    same("another body", PQ_REFUSED_IMAGE_BODY, answer(PQ_IMAGE_COUNT, 8, 764, 2, 764, 24));
-    same("odd samples", PQ_REFUSED_ODD_SAMPLES, answer(PQ_IMAGE_COUNT, 0, 764, 1, 764, 24));
-    same("little room for the image", PQ_REFUSED_IMAGE_ROOM, answer(PQ_IMAGE_COUNT, 0, 764, 2, 763, 24));
-    same("little room for the reply", PQ_REFUSED_REPLY_ROOM, answer(PQ_IMAGE_COUNT, 0, 764, 2, 764, 23));
+    same("as it is", PQ_OK, answer(PQ_IMAGE_COUNT, 0, 788, 2, 788, 24));
+    same("short image", PQ_REFUSED_IMAGE_LENGTH, answer(PQ_IMAGE_COUNT, 0, 787, 2, 788, 24));
+    same("long image", PQ_REFUSED_IMAGE_LENGTH, answer(PQ_IMAGE_COUNT, 0, 789, 2, 788, 24));
+    same("an image of version 2", PQ_REFUSED_IMAGE_LENGTH, answer(PQ_IMAGE_COUNT, 0, 764, 2, 788, 24));
+    same("an image of version 1", PQ_REFUSED_IMAGE_LENGTH, answer(PQ_IMAGE_COUNT, 0, 620, 2, 788, 24));
+    same("another table", PQ_REFUSED_IMAGE_TABLE, answer(0, 0, 788, 2, 788, 24));
+    same("other settings", PQ_REFUSED_IMAGE_SETTINGS, answer(PQ_IMAGE_SETTINGS, 7, 788, 2, 788, 24));
+    same("another body", PQ_REFUSED_IMAGE_BODY, answer(PQ_IMAGE_COUNT, 8, 788, 2, 788, 24));
+    same("odd samples", PQ_REFUSED_ODD_SAMPLES, answer(PQ_IMAGE_COUNT, 0, 788, 1, 788, 24));
+    same("little room for the image", PQ_REFUSED_IMAGE_ROOM, answer(PQ_IMAGE_COUNT, 0, 788, 2, 787, 24));
+    same("little room for the reply", PQ_REFUSED_REPLY_ROOM, answer(PQ_IMAGE_COUNT, 0, 788, 2, 788, 23));
 }
 
 /* What a trial answers to an image with one number changed, and to these lengths. */
@@ -348,13 +375,13 @@ static uint32_t trial(int place, uint32_t number, size_t image_length, size_t sa
 
 static void check_refused_trials(void)
 {
-    same("a trial", PQ_OK, trial(PQ_IMAGE_COUNT, 0, 764, 2, 24));
-    same("short image, tried", PQ_REFUSED_IMAGE_LENGTH, trial(PQ_IMAGE_COUNT, 0, 763, 1, 23));
-    same("another table, tried", PQ_REFUSED_IMAGE_TABLE, trial(0, 0, 764, 1, 23));
-    same("other settings, tried", PQ_REFUSED_IMAGE_SETTINGS, trial(PQ_IMAGE_SETTINGS, 7, 764, 1, 23));
-    same("another body, tried", PQ_REFUSED_IMAGE_BODY, trial(PQ_IMAGE_COUNT, 8, 764, 1, 23));
-    same("odd samples, tried", PQ_REFUSED_ODD_SAMPLES, trial(PQ_IMAGE_COUNT, 0, 764, 1, 23));
-    same("little room for a trial's reply", PQ_REFUSED_REPLY_ROOM, trial(PQ_IMAGE_COUNT, 0, 764, 2, 23));
+    same("a trial", PQ_OK, trial(PQ_IMAGE_COUNT, 0, 788, 2, 24));
+    same("short image, tried", PQ_REFUSED_IMAGE_LENGTH, trial(PQ_IMAGE_COUNT, 0, 787, 1, 23));
+    same("another table, tried", PQ_REFUSED_IMAGE_TABLE, trial(0, 0, 788, 1, 23));
+    same("other settings, tried", PQ_REFUSED_IMAGE_SETTINGS, trial(PQ_IMAGE_SETTINGS, 7, 788, 1, 23));
+    same("another body, tried", PQ_REFUSED_IMAGE_BODY, trial(PQ_IMAGE_COUNT, 8, 788, 1, 23));
+    same("odd samples, tried", PQ_REFUSED_ODD_SAMPLES, trial(PQ_IMAGE_COUNT, 0, 788, 1, 23));
+    same("little room for a trial's reply", PQ_REFUSED_REPLY_ROOM, trial(PQ_IMAGE_COUNT, 0, 788, 2, 23));
 }
 
 /* Tries the samples of the worked example from a fresh image, with so much room; the buffers are filled with
@@ -405,23 +432,23 @@ static void check_record(void)
     struct pq_record record = pq_get_record(bytes);
     same("kind", 0, record.kind);
     same("clipped", 1, record.clipped);
-    same("start", 0x07060504, record.start);
-    same("duration", 0x0b0a0908, record.duration);
-    same("first", 0x0f0e0d0c, record.first);
-    same("second", 0x13121110, record.second);
+    same("start", 0x0b0a090807060504, record.start);
+    same("duration", 0x131211100f0e0d0c, record.duration);
+    same("first", 0x17161514, record.first);
+    same("second", 0x1b1a1918, record.second);
 }
 
 /* Changes of one start and two magnitudes, kept as records, and the count of a day of them. */
 static uint8_t changes[25 * PQ_RECORD_SIZE + 1];
 static uint8_t day_reply[PQ_DAY_REPLY_SIZE + 1];
 
-static void put_changes(int count, uint32_t start, uint32_t first, uint32_t second)
+static void put_changes(int count, uint64_t start, uint32_t first, uint32_t second)
 {
     memset(changes, 0, sizeof changes);
     for (uint8_t *at = changes; count > 0; count--, at += PQ_RECORD_SIZE) {
         at[PQ_RECORD_KIND] = PQ_CHANGE;
-        pq_put_u32(at + PQ_RECORD_START, start);
-        pq_put_u32(at + PQ_RECORD_DURATION, 2);
+        pq_put_u64(at + PQ_RECORD_START, start);
+        pq_put_u64(at + PQ_RECORD_DURATION, 2);
         pq_put_u32(at + PQ_RECORD_FIRST, first);
         pq_put_u32(at + PQ_RECORD_SECOND, second);
     }
@@ -448,7 +475,7 @@ static void same_day(uint32_t system, size_t count, uint64_t z, uint32_t above, 
     same("behind a day's reply", 0x5a, day_reply[PQ_DAY_REPLY_SIZE]);
 }
 
-/* The limits of both counts, midnight, the caps, and both verdicts by themselves. */
+/* The limits of both counts, midnight, the caps, both verdicts by themselves; and starts of more than 4 bytes, up to the greatest. */
 static void check_day(void)
 {
     put_changes(25, 8639999, 8000, 4800);
@@ -472,15 +499,24 @@ static void check_day(void)
         same("second magnitudes over", j == 0, pq_get_u64(day_reply + PQ_DAY_BY_SECOND_OVER));
         same("first magnitudes over", j == 1, pq_get_u64(day_reply + PQ_DAY_BY_FIRST_OVER));
     }
+    put_changes(1, UINT64_C(4294967296), 20000, 20000);
+    same_day(50, 1, 0, 0, 497, 1, 1, 0);
+    same_day(50, 1, 8639999, 0, 498, 1, 1, 0);
+    same_day(50, 1, 0, 0, 0, 0, 0, 0);
+    put_changes(1, UINT64_MAX, 20000, 20000);
+    same_day(50, 1, 0, 0, UINT64_C(2135039823346), 1, 1, 0);
+    same_day(50, 1, 8639999, 0, UINT64_C(2135039823347), 1, 1, 0);
+    same_day(50, 1, 8639999, 0, 0, 0, 0, 0);
+    same_day(60, 1, 10367999, 0, UINT64_C(1779199852789), 1, 1, 0);
 }
 
 /* A day's refusals: one of the settings, then 15, 16, 17, 13, each with those behind it. Nothing is written. */
 static void check_refused_day(void)
 {
     static const struct { uint32_t system; size_t length; uint64_t z; uint8_t kind; uint32_t refusal; } wrong[] = {
-        {51, 21, 8640000, 5, PQ_REFUSED_SYSTEM}, {50, 21, 8640000, 5, PQ_REFUSED_Z}, {60, 21, 10368000, 5, PQ_REFUSED_Z},
-        {50, 21, 8639999, 5, PQ_REFUSED_RECORDS}, {50, 20, 8639999, 5, PQ_REFUSED_KIND}, {50, 20, 0, 0, PQ_REFUSED_KIND},
-        {60, 20, 10367999, 1, PQ_REFUSED_REPLY_ROOM},
+        {51, 29, 8640000, 5, PQ_REFUSED_SYSTEM}, {50, 29, 8640000, 5, PQ_REFUSED_Z}, {60, 29, 10368000, 5, PQ_REFUSED_Z},
+        {50, 29, 8639999, 5, PQ_REFUSED_RECORDS}, {50, 20, 8639999, 5, PQ_REFUSED_RECORDS}, {50, 28, 8639999, 5, PQ_REFUSED_KIND},
+        {50, 28, 0, 0, PQ_REFUSED_KIND}, {60, 28, 10367999, 1, PQ_REFUSED_REPLY_ROOM},
     };
     for (size_t j = 0; j < sizeof wrong / sizeof wrong[0]; j++) {
         put_changes(1, 1, 20000, 20000);
@@ -541,7 +577,7 @@ static void check_clipped_dip(void)
         {32767, 1, 0x29}, {-32767, 0, 0x29}, {-32768, 1, 0x2b}, {32766, 0, 0x27},
     };
     for (size_t j = 0; j < sizeof dips / sizeof dips[0]; j++) {
-        const uint8_t want[] = {1, dips[j].clipped, 0, 0, 3, 0, 0, 0, 3, 0, 0, 0, dips[j].lowest, 0x12, 0x04, 0, 0, 0, 0, 0};
+        const uint8_t want[] = {1, dips[j].clipped, 0, 0, 3, 0, 0, 0, 0, 0, 0, 0, 3, 0, 0, 0, 0, 0, 0, 0, dips[j].lowest, 0x12, 0x04, 0, 0, 0, 0, 0};
         put_event(15000);
         replace(4, 0, dips[j].count);
         for (size_t samples = 1; samples <= 64; samples++) {
@@ -564,30 +600,34 @@ static void begin_in_dip(void)
     advance(recording + PQ_SAMPLE_SIZE * 8 * 6, PQ_SAMPLE_SIZE * 4);
 }
 
-/* The image of that channel, byte by byte. */
+/* The image of that channel, byte by byte, and what becomes of it in the earlier edition. */
 static void check_clipped_image(void)
 {
-    static const uint8_t table[] = {
-        1, 0, 0, 0, 32, 0, 36, 0, 2, 0, 0, 0, 68, 0, 32, 0, 3, 0, 0, 0, 100, 0, 0x5c, 0x02, 4, 0, 0, 0, 0xc0, 0x02, 60, 0,
+    static const struct { size_t length, kept, marks, dip, magnitude, mark; } places[] = {
+        {788, 108, 588, 736, 744, 772}, {764, 104, 584, 724, 728, 748},
     };
     static const uint32_t values[] = {400000, 400000, 349826, 266793, 329848};
-    uint8_t want[764] = {0};
-    memcpy(want, table, sizeof table);
-    put_settings(want + 32, 50, 400000, 500);
-    want[68] = 4;
-    pq_put_u64(want + 72, 2948676289);
-    pq_put_u64(want + 80, 5000000000);
-    want[88] = 1;
-    want[92] = 1; /* the half-cycle in progress is clipped, the last one is not */
-    want[100] = 5;
-    for (size_t j = 0; j < 5; j++)
-        pq_put_u32(want + 104 + 4 * j, values[j]);
-    want[584 + 2] = want[584 + 3] = 1;
-    want[724] = 3;
-    pq_put_u32(want + 728, 266793);
-    want[748] = 1;
+    uint8_t earlier[PQ_EARLIER_IMAGE_SIZE];
     begin_in_dip();
-    same_bytes("an image with marks", want, images[now], sizeof want);
+    same("an image with marks, back", PQ_OK, pq_convert_image_back(images[now], PQ_IMAGE_SIZE, earlier, sizeof earlier));
+    for (int form = THIS; form <= EARLIER; form++) {
+        uint8_t want[788] = {0};
+        memcpy(want, tables[form], sizeof tables[form]);
+        put_settings(want + 32, 50, 400000, 500);
+        want[68] = 4;
+        pq_put_u64(want + 72, 2948676289);
+        pq_put_u64(want + 80, 5000000000);
+        want[88] = 1;
+        want[92] = 1; /* the half-cycle in progress is clipped, the last one is not */
+        want[100] = 5;
+        for (size_t j = 0; j < 5; j++)
+            pq_put_u32(want + places[form].kept + 4 * j, values[j]);
+        want[places[form].marks + 2] = want[places[form].marks + 3] = 1;
+        want[places[form].dip] = 3;
+        pq_put_u32(want + places[form].magnitude, 266793);
+        want[places[form].mark] = 1;
+        same_bytes("an image with marks", want, form == THIS ? images[now] : earlier, places[form].length);
+    }
     same("the newest value's mark", 0, pq_newest_clipped(images[now]));
 
     begin_with(50, 400000, 500);
@@ -718,10 +758,10 @@ static void check_mark_rules(void)
 
     go_on(8, 25000);
     for (int event = 0; event < 3; event++) {
-        int start = PQ_IMAGE_DIP + 8 * event, mark = PQ_IMAGE_DIP_CLIPPED + 4 * event;
+        int start = PQ_IMAGE_DIP + 12 * event, mark = PQ_IMAGE_DIP_CLIPPED + 4 * event;
         memset(images[now] + PQ_IMAGE_DIP, 0, PQ_IMAGE_SIZE - PQ_IMAGE_DIP);
         unused("an event that does not stand", mark, 4);
-        pq_put_u32(images[now] + start, 1);
+        pq_put_u64(images[now] + start, 1);
         used("an event that stands", mark, 4);
         for (int other = 0; other < 3; other++)
             if (other != event)
@@ -742,17 +782,20 @@ static void check_mark_rules(void)
     unused("a change, phase 1", PQ_IMAGE_CHANGE_CLIPPED, 4);
     pq_put_u32(images[now] + PQ_IMAGE_PHASE, 2);
     feed(151, 251, 1000);
-    same("values before k + N", 250, number_at(PQ_IMAGE_VALUES));
+    same("values before k + N", 250, wide_at(PQ_IMAGE_VALUES));
     unused("a change before k + N", PQ_IMAGE_CHANGE_CLIPPED, 4);
     feed(252, 252, 1000);
     used("a change at k + N", PQ_IMAGE_CHANGE_CLIPPED, 4);
     used_values("more than N values", 100);
-    memset(images[now] + PQ_IMAGE_CHANGE + 8, 0, 4); /* the greatest difference */
-    pq_put_u32(images[now] + PQ_IMAGE_VALUES, UINT32_MAX);
-    pq_put_u32(images[now] + PQ_IMAGE_CHANGE, UINT32_MAX - 100);
-    used("a change at k + N, the last value", PQ_IMAGE_CHANGE_CLIPPED, 4);
-    pq_put_u32(images[now] + PQ_IMAGE_CHANGE, UINT32_MAX - 99);
-    unused("a change before k + N, which passes 4 bytes", PQ_IMAGE_CHANGE_CLIPPED, 4);
+    memset(images[now] + PQ_IMAGE_CHANGE + 8 + 4, 0, 4); /* the greatest difference */
+    for (int end = 0; end < 2; end++) {
+        uint64_t last = end == 0 ? EARLIER_MOST : LAST_VALUE;
+        pq_put_u64(images[now] + PQ_IMAGE_VALUES, last);
+        pq_put_u64(images[now] + PQ_IMAGE_CHANGE, last - 100);
+        used("a change at k + N, the last value", PQ_IMAGE_CHANGE_CLIPPED, 4);
+        pq_put_u64(images[now] + PQ_IMAGE_CHANGE, last - 99);
+        unused("a change before k + N, which passes the last value", PQ_IMAGE_CHANGE_CLIPPED, 4);
+    }
     begin(60);
     go_on(8 * 122, 100);
     used_values("more than N values at 60 Hz", 120);
@@ -833,6 +876,298 @@ static void check_held_marks(void)
     check_held_changes();
 }
 
+/* Makes V this number, which is N or more. The channel has never yet been steady: then any values may stand before. */
+static void put_values(uint64_t values)
+{
+    pq_put_u64(images[now] + PQ_IMAGE_VALUES, values);
+    pq_put_u32(images[now] + PQ_IMAGE_PHASE, 1);
+}
+
+/* What two half-cycles find with V at such a number: how many samples are taken, why no more, and V then. */
+static void check_values_end(void)
+{
+    static const struct { uint64_t values; uint32_t refusal; uint64_t taken, why, then; } ends[] = {
+        {EARLIER_MOST - 1, PQ_OK, 16, PQ_ALL_TAKEN, EARLIER_MOST + 1},
+        {EARLIER_MOST, PQ_OK, 16, PQ_ALL_TAKEN, EARLIER_MOST + 2},
+        {LAST_VALUE - 2, PQ_OK, 16, PQ_ALL_TAKEN, LAST_VALUE},
+        {LAST_VALUE - 1, PQ_OK, 15, PQ_VALUES_ENDED, LAST_VALUE},
+        {LAST_VALUE, PQ_OK, 7, PQ_VALUES_ENDED, LAST_VALUE},
+        {LAST_VALUE + 1, PQ_REFUSED_IMAGE_BODY, 0, 0, 0},
+        {UINT64_MAX, PQ_REFUSED_IMAGE_BODY, 0, 0, 0},
+    };
+    uint8_t samples[16 * PQ_SAMPLE_SIZE], reply[PQ_REPLY_SIZE];
+    for (int j = 0; j < 16; j++)
+        put_sample(samples + PQ_SAMPLE_SIZE * j, 100);
+    for (size_t j = 0; j < sizeof ends / sizeof ends[0]; j++) {
+        begin(50);
+        go_on(16, 100);
+        put_values(ends[j].values);
+        same("V and its end", ends[j].refusal, pq_advance(images[now], PQ_IMAGE_SIZE, samples, sizeof samples, images[!now], PQ_IMAGE_SIZE,
+                                                          records[0], PQ_RECORDS_ENOUGH, reply, sizeof reply));
+        if (ends[j].refusal != PQ_OK)
+            continue;
+        now = !now;
+        same("samples up to V's end", ends[j].taken, pq_get_u64(reply + PQ_REPLY_TAKEN));
+        same("why at V's end", ends[j].why, pq_get_u64(reply + PQ_REPLY_WHY));
+        same("V at its end", ends[j].then, wide_at(PQ_IMAGE_VALUES));
+        same("values kept at V's end", 100, pq_kept_values(images[now]));
+    }
+}
+
+/* Records whose numbers pass 4 bytes: a dip that stands across, one behind; and the change of the bench reading, with k the first such value. */
+static void check_past_4_bytes(void)
+{
+    static const uint8_t want[3][PQ_RECORD_SIZE] = {
+        {1, 0, 0, 0, 0xff, 0xff, 0xff, 0xff, 0, 0, 0, 0, 3, 0, 0, 0, 0, 0, 0, 0, 0x20, 0x03, 0, 0, 0, 0, 0, 0},
+        {1, 0, 0, 0, 4, 0, 0, 0, 1, 0, 0, 0, 3, 0, 0, 0, 0, 0, 0, 0, 0x20, 0x03, 0, 0, 0, 0, 0, 0},
+        {4, 0, 0, 0, 0, 0, 0, 0, 1, 0, 0, 0, 1, 0, 0, 0, 0, 0, 0, 0, 0xe0, 0x18, 0, 0, 0xe0, 0x18, 0, 0},
+    };
+    begin(50);
+    go_on(24, 100);
+    put_values(EARLIER_MOST - 1);
+    for (uint64_t dip = 0; dip < 2; dip++) {
+        go_on(16, 50);
+        same("V past 4 bytes", EARLIER_MOST + 1 + 5 * dip, wide_at(PQ_IMAGE_VALUES));
+        same("a dip's start", EARLIER_MOST + 5 * dip, wide_at(PQ_IMAGE_DIP));
+        go_on(24, 100);
+        same("records past 4 bytes", dip + 1, written);
+        same_bytes("a dip past 4 bytes", want[dip], records[dip], PQ_RECORD_SIZE);
+    }
+    begin(50);
+    go_on(16, 100);
+    put_values(EARLIER_MOST + 1 - 151);
+    go_on(8 * 149, 100);
+    go_on(8 * 2, 96);
+    same("a change past 4 bytes", EARLIER_MOST + 1, wide_at(PQ_IMAGE_CHANGE));
+    go_on(8 * 101, 96);
+    same("records of a change past 4 bytes", 1, written);
+    same_bytes("a change past 4 bytes, its record", want[2], records[0], PQ_RECORD_SIZE);
+}
+
+/* The converter. What is converted is put together in both editions at once, number by number, each in its width. */
+static uint8_t forms[2][1000];
+static size_t lengths[2];
+
+static void add_number(uint64_t number, int width, int earlier_width)
+{
+    const int widths[] = {width, earlier_width};
+    for (int form = THIS; form <= EARLIER; form++)
+        for (int j = 0; j < widths[form]; j++)
+            forms[form][lengths[form]++] = number >> 8 * j & 0xff;
+}
+
+static void add_record(uint64_t kind, uint64_t mark, uint64_t start, uint64_t duration, uint32_t first, uint32_t second)
+{
+    add_number(kind, 1, 1);
+    add_number(mark, 1, 1);
+    add_number(0, 2, 2);
+    add_number(start, 8, 4);
+    add_number(duration, 8, 4);
+    add_number(first, 4, 4);
+    add_number(second, 4, 4);
+}
+
+/* Three records; starts and durations are not compared with anything. */
+static void put_list(void)
+{
+    lengths[THIS] = lengths[EARLIER] = 0;
+    add_record(PQ_DIP, 1, 0, EARLIER_MOST, 0x04030201, 0);
+    add_record(PQ_CHANGE, 0, 0x14131211, 0x18171615, 0x24232221, 0x28272625);
+    add_record(PQ_INTERRUPTION, 1, EARLIER_MOST, 0, UINT32_MAX, 0x08070605);
+}
+
+/* An image with something in every part, in a change and with all three events, the last one from `start` on. */
+static void put_image(uint64_t values, uint64_t began, uint64_t stand, uint64_t start)
+{
+    for (int form = THIS; form <= EARLIER; form++) {
+        memcpy(forms[form], tables[form], sizeof tables[form]);
+        put_settings(forms[form] + 32, 50, 1600, 500);
+        lengths[form] = 32 + PQ_SETTINGS_SIZE;
+    }
+    add_number(5, 4, 4);          /* samples in progress */
+    add_number(0x04030201, 8, 8); /* the sum of their squares */
+    add_number(0x108070605, 8, 8);
+    for (int j = 0; j < 3; j++)
+        add_number(1, 4, 4);
+    add_number(values, 8, 4);
+    for (uint64_t j = 0; j < 120; j++)
+        add_number(j < 100 ? 1000 + j : 0, 4, 4);
+    for (uint64_t j = 0; j < 120; j++)
+        add_number(j < 100 ? j % 2 : 0, 1, 1);
+    add_number(3, 4, 4);
+    add_number(began, 8, 4);
+    add_number(159968, 4, 4); /* A(k - 1) */
+    add_number(6368, 4, 4);   /* the greatest difference */
+    add_number(stand, 8, 4);
+    for (uint64_t event = 0; event < 3; event++) {
+        add_number(start - 2 + event, 8, 4);
+        add_number(800 + event, 4, 4);
+    }
+    for (int j = 0; j < 4; j++)
+        add_number(1, 4, 4);
+}
+
+typedef uint32_t conversion(const uint8_t *from, size_t from_length, uint8_t *to, size_t to_length);
+static conversion *const of_records[] = {pq_convert_records_back, pq_convert_records};
+static conversion *const of_image[] = {pq_convert_image_back, pq_convert_image};
+
+/* Converts the first bytes of one form, with so much room, and holds the answer to what it should be. What is written is the other form; all bytes behind it,
+ * or after a refusal all bytes, are as they were, and so is what was converted. */
+static void converts(const char *what, conversion *const calls[], int form, size_t length, size_t room, uint32_t refusal)
+{
+    uint8_t given[sizeof forms[0]], got[sizeof forms[0]], want[sizeof forms[0]];
+    memcpy(given, forms[form], sizeof given);
+    memset(got, 0xa5, sizeof got);
+    memset(want, 0xa5, sizeof want);
+    if (refusal == PQ_OK)
+        memcpy(want, forms[!form], lengths[!form]);
+    same(what, refusal, calls[form](given, length, got, room));
+    same_bytes(what, want, got, sizeof got);
+    same_bytes(what, forms[form], given, sizeof given);
+}
+
+/* The whole of one form: with just the room, with more, and with too little or none, where only 7 may be. */
+static void converts_whole(const char *what, conversion *const calls[], int form, uint32_t refusal)
+{
+    size_t room = lengths[!form];
+    converts(what, calls, form, lengths[form], room, refusal);
+    converts(what, calls, form, lengths[form], room + 9, refusal);
+    if (refusal == PQ_OK && room > 0)
+        refusal = PQ_REFUSED_IMAGE_ROOM;
+    converts(what, calls, form, lengths[form], room - (room > 0), refusal);
+    converts(what, calls, form, lengths[form], 0, refusal);
+}
+
+static void converts_both_ways(const char *what, conversion *const calls[])
+{
+    converts_whole(what, calls, EARLIER, PQ_OK);
+    converts_whole(what, calls, THIS, PQ_OK);
+}
+
+/* One byte of what is converted changed. */
+static void converts_with(const char *what, conversion *const calls[], int form, size_t place, uint8_t byte, uint32_t refusal)
+{
+    uint8_t before = forms[form][place];
+    forms[form][place] = byte;
+    converts_whole(what, calls, form, refusal);
+    forms[form][place] = before;
+}
+
+static void check_converted_records(void)
+{
+    static const struct { size_t place; uint8_t byte; } wrong[] = {
+        {0, 0}, {0, 5}, {0, 255}, {1, 2}, {1, 255}, {2, 1}, {2, 255}, {3, 1}, {3, 128},
+    };
+    const size_t sizes[] = {PQ_RECORD_SIZE, PQ_EARLIER_RECORD_SIZE};
+    lengths[THIS] = lengths[EARLIER] = 0;
+    converts_both_ways("no records", of_records);
+    memcpy(forms[THIS], change_record, lengths[THIS] = sizeof change_record);
+    memcpy(forms[EARLIER], earlier_change_record, lengths[EARLIER] = sizeof earlier_change_record);
+    converts_both_ways("a change's record", of_records);
+    put_list();
+    same("the length of three records", 84, lengths[THIS]);
+    same("the length of three earlier records", 60, lengths[EARLIER]);
+    converts_both_ways("records", of_records);
+    for (int form = THIS; form <= EARLIER; form++) {
+        converts("a byte less", of_records, form, lengths[form] - 1, sizeof forms[0], PQ_REFUSED_CONVERSION);
+        converts("a byte more", of_records, form, lengths[form] + 1, sizeof forms[0], PQ_REFUSED_CONVERSION);
+        converts("one byte", of_records, form, 1, 0, PQ_REFUSED_CONVERSION);
+        for (size_t record = 0; record < 3; record++)
+            for (size_t j = 0; j < sizeof wrong / sizeof wrong[0]; j++)
+                converts_with("a wrong record", of_records, form, sizes[form] * record + wrong[j].place, wrong[j].byte, PQ_REFUSED_CONVERSION);
+    }
+    /* Each higher byte of a start and of a duration; then beside a record that is wrong, before it or behind. */
+    for (size_t record = 0; record < 3; record++)
+        for (size_t j = 0; j < 8; j++) {
+            size_t place = PQ_RECORD_SIZE * record + (j < 4 ? PQ_RECORD_START : PQ_RECORD_DURATION) + 4 + j % 4;
+            converts_with("a number above 4 bytes", of_records, THIS, place, 1, PQ_REFUSED_WIDE);
+            forms[THIS][place] = 128;
+            for (size_t other = 0; other < 3; other++)
+                converts_with("a number above 4 bytes and a kind", of_records, THIS, PQ_RECORD_SIZE * other, 5, PQ_REFUSED_CONVERSION);
+            converts("a number above 4 bytes and a byte less", of_records, THIS, lengths[THIS] - 1, 0, PQ_REFUSED_CONVERSION);
+            forms[THIS][place] = 0;
+        }
+    converts_both_ways("records again", of_records);
+}
+
+/* Images that their edition refuses, with each of its numbers. */
+static void check_refused_images(void)
+{
+    static const struct { size_t places[2]; uint8_t byte; } wrong[] = {
+        {{0, 0}, 2}, {{20, 20}, 101}, {{22, 22}, 0x61}, {{28, 28}, 0xc1}, {{30, 30}, 61}, /* the table: 9 */
+        {{32, 32}, 7}, {{36, 36}, 51},                                                    /* the settings: 10 */
+        {{68, 68}, 8}, {{88, 88}, 2}, {{92, 92}, 2}, {{96, 96}, 2},                       /* body 2: 11, as all below */
+        {{108 + 4 * 100, 104 + 4 * 100}, 1}, {{588 + 99, 584 + 99}, 2}, {{588 + 100, 584 + 100}, 1},
+        {{708, 704}, 2}, {{708, 704}, 4},   /* the phase */
+        {{712, 708}, 100}, {{713, 709}, 2}, /* k is N, and above V */
+        {{723, 715}, 4}, {{727, 719}, 4},   /* A(k - 1), and the greatest difference */
+        {{729, 721}, 2}, {{728, 720}, 150}, /* the first stand above V, and below k */
+        {{737, 725}, 2}, {{749, 733}, 2}, {{761, 741}, 2}, /* a start above V */
+        {{746, 730}, 9}, {{758, 738}, 9}, {{770, 746}, 9}, /* a magnitude */
+        {{772, 748}, 2}, {{776, 752}, 2}, {{780, 756}, 2}, {{784, 760}, 2},
+    };
+    for (int form = THIS; form <= EARLIER; form++) {
+        uint8_t out[PQ_IMAGE_SIZE];
+        put_image(300, 151, 160, 10);
+        converts("an image, a byte less", of_image, form, lengths[form] - 1, sizeof forms[0], PQ_REFUSED_CONVERSION);
+        converts("an image, a byte more", of_image, form, lengths[form] + 1, sizeof forms[0], PQ_REFUSED_CONVERSION);
+        converts("no image", of_image, form, 0, 0, PQ_REFUSED_CONVERSION);
+        same("an image of the other edition", PQ_REFUSED_CONVERSION, of_image[form](forms[!form], lengths[!form], out, sizeof out));
+        for (size_t j = 0; j < sizeof wrong / sizeof wrong[0]; j++)
+            converts_with("a refused image", of_image, form, wrong[j].places[form], wrong[j].byte, PQ_REFUSED_CONVERSION);
+        memcpy(forms[form], tables[!form], sizeof tables[form]);
+        converts_whole("an image with the other edition's table", of_image, form, PQ_REFUSED_CONVERSION);
+    }
+}
+
+/* Of an image V alone decides on 18; nothing else in it can be above V. */
+static void check_wide_images(void)
+{
+    put_image(EARLIER_MOST + 1, 151, 160, 10);
+    converts_whole("V above 4 bytes", of_image, THIS, PQ_REFUSED_WIDE);
+    converts_with("V above 4 bytes, refused", of_image, THIS, PQ_IMAGE_CHANGE_CLIPPED, 2, PQ_REFUSED_CONVERSION);
+    put_image(EARLIER_MOST + 1, EARLIER_MOST - 99, EARLIER_MOST + 1, EARLIER_MOST + 1);
+    converts_whole("all above 4 bytes", of_image, THIS, PQ_REFUSED_WIDE);
+    put_image(LAST_VALUE, LAST_VALUE - 100, LAST_VALUE, LAST_VALUE);
+    converts_whole("V at its end", of_image, THIS, PQ_REFUSED_WIDE);
+    put_image(LAST_VALUE + 1, 151, 160, 10);
+    converts_whole("V above its end", of_image, THIS, PQ_REFUSED_CONVERSION);
+    put_image(300, 151, 160, 10);
+    forms[THIS][PQ_IMAGE_SWELL + 4] = 1;
+    converts_whole("a start above V and 4 bytes", of_image, THIS, PQ_REFUSED_CONVERSION);
+}
+
+/* The channel goes on from its image, there and back. */
+static void go_through(const char *what)
+{
+    uint8_t earlier[PQ_EARLIER_IMAGE_SIZE];
+    same(what, PQ_OK, pq_convert_image_back(images[now], PQ_IMAGE_SIZE, earlier, sizeof earlier));
+    same(what, PQ_OK, pq_convert_image(earlier, sizeof earlier, images[!now], PQ_IMAGE_SIZE));
+    same_bytes(what, images[now], images[!now], PQ_IMAGE_SIZE);
+    now = !now;
+}
+
+static void check_converted_images(void)
+{
+    put_image(300, 151, 160, 10);
+    same("the length of an image", PQ_IMAGE_SIZE, lengths[THIS]);
+    same("the length of an earlier image", PQ_EARLIER_IMAGE_SIZE, lengths[EARLIER]);
+    converts_both_ways("an image", of_image);
+    put_image(EARLIER_MOST, EARLIER_MOST - 100, EARLIER_MOST, EARLIER_MOST);
+    converts_both_ways("an image at the earlier edition's last value", of_image);
+
+    begin(50);
+    go_through("a fresh image");
+    for (int half = 1; half <= 253; half++) {
+        go_on(5, half <= 150 ? 100 : 96);
+        go_through("an image after five samples of a half-cycle");
+        go_on(3, half <= 150 ? 100 : 96);
+        go_through("an image after a half-cycle");
+    }
+    same("records, gone through the earlier edition", 1, written);
+    same_bytes("a change's record, gone through the earlier edition", change_record, records[0], sizeof change_record);
+}
+
 /* Numbers in bytes. */
 static void check_numbers(void)
 {
@@ -867,5 +1202,11 @@ int main(void)
     check_change_marks();
     check_mark_rules();
     check_held_marks();
+    check_values_end();
+    check_past_4_bytes();
+    check_converted_records();
+    check_converted_images();
+    check_refused_images();
+    check_wide_images();
     return differences > 0;
 }

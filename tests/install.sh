@@ -1,5 +1,5 @@
 #!/usr/bin/env bash
-# Installs the library into a folder of its own, builds the example host elsewhere with what pkg-config says and nothing else, runs it, and uninstalls.
+# Installs the library into a folder of its own, builds the example programs elsewhere with what pkg-config says and nothing else, runs them, and uninstalls.
 # All from a copy, with an rt that only says that it was called: the library is made again just where the code is newer.
 set -euo pipefail
 cd "$(dirname "$0")/.."
@@ -32,11 +32,18 @@ done
 
 export PKG_CONFIG_LIBDIR=$work/root/opt/meter/lib64/pkgconfig PKG_CONFIG_SYSROOT_DIR=$work/root
 read -ra flags < <(pkg-config --cflags --libs pqmeter)
-cp examples/host/log.c "$work"
-gcc -std=c99 -O2 "$work/log.c" "${flags[@]}" -o "$work/log"
+for program in log convert; do
+    cp "examples/host/$program.c" "$work"
+    gcc -std=c99 -O2 "$work/$program.c" "${flags[@]}" -o "$work/$program"
+done
 for recording in worked crusher busy; do
     "$work/log" <"examples/$recording.bin" | cmp - "examples/$recording.txt"
 done
+printf '\1\0\0\0\3\0\0\0\3\0\0\0\40\3\0\0\0\0\0\0' >"$work/earlier"
+"$work/convert" records "$work/earlier" "$work/records"
+"$work/convert" records --back "$work/records" "$work/back"
+cmp "$work/earlier" "$work/back"
+[ "$(stat -c %s "$work/records")" = 28 ] || { echo "different: the length of a converted record"; exit 1; }
 printf '#include <stdio.h>\n#include "pq.h"\nint main(void) { puts(PQ_VERSION); return 0; }\n' >"$work/version.c"
 gcc "$work/version.c" "${flags[@]}" -o "$work/version"
 [ "$("$work/version")" = "$(pkg-config --modversion pqmeter)" ] || { echo "different: the version in pq.h and in pqmeter.pc"; exit 1; }

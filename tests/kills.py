@@ -3,8 +3,9 @@
 
     python3 tests/kills.py LOG EVENT_PROGRAM [KILLS]
 
-First at each call that changes a file, in turn, also half-way through each write. Then at random moments, KILLS times or more (400): from a file, and from
-a pipe that is fed from where STATE stands. Last, many runs of a few samples each, which nobody kills and which share one pipe.
+First at each call that changes a file, in turn, also half-way through each write; also where a run that goes on finds a STATE of version 2. Then at random
+moments, KILLS times or more (400): from a file, and from a pipe that is fed from where STATE stands. Last, many runs of a few samples each, which nobody kills
+and which share one pipe.
 After each kill LOG must be a beginning of the text, and hold what STATE counts: no record is lost, none comes twice, none is invented.
 """
 import itertools
@@ -59,8 +60,9 @@ class Kills:
         return f"{self.count} kills, {self.lines} left lines that STATE does not count, {self.beside} a STATE.new"
 
 
-def at_each_call(channel, text, name):
-    """A run killed at its n-th call, then one that goes on and is killed at its own n-th call, then one that nobody kills; for each n there is."""
+def at_each_call(channel, text, name, between=lambda: None):
+    """A run killed at its n-th call, then one that goes on and is killed at its own n-th call, then one that nobody kills; for each n there is. What is to be
+    done between two runs is done there."""
     kills = Kills(channel, text)
     for call, what in ("write", "kill"), ("write", "half-kill"), ("fsync", "kill"), ("rename", "kill"), ("ftruncate", "kill"):
         for number in itertools.count(1):
@@ -68,7 +70,9 @@ def at_each_call(channel, text, name):
             channel.remove()
             # Only a run that goes on cuts LOG.
             first = kills.look(channel.run("rename:3:kill" if call == "ftruncate" else fault)[0], fault)
+            between()
             second = kills.look(channel.run(fault)[0], fault)
+            between()
             check(not kills.look(channel.run()[0], fault), fault, "the last run is killed")
             if not second and (not first or call == "ftruncate"):
                 break
@@ -143,7 +147,9 @@ def main():
         library = preload(log)
         for name in "crusher", "busy":
             recording, text = example(name)
-            at_each_call(Channel(log, library, folder, recording), text, name)
+            channel = Channel(log, library, folder, recording)
+            at_each_call(channel, text, name)
+            at_each_call(channel, text, name + ", updated from version 2", channel.make_earlier)
         # The busy example many times over: most of a run is spent in writing.
         channel = Channel(log, library, folder, recording[:36] + 40 * recording[36:])
         with open(channel.recording, "rb") as file:

@@ -74,7 +74,20 @@ class Channel:
         return done.returncode, done.stderr.decode()
 
     def numbers(self):
-        """Samples taken and bytes of LOG that STATE counts; 0, 0 without a STATE."""
+        """Samples taken and bytes of LOG that STATE, of this version or of version 2, counts; 0, 0 without a STATE."""
         state = read(self.state)
-        assert len(state) in (0, 796), len(state)
-        return (int.from_bytes(state[764:772], "little"), int.from_bytes(state[772:780], "little")) if state else (0, 0)
+        assert len(state) in (0, 796, 820), len(state)
+        return (int.from_bytes(state[-32:-24], "little"), int.from_bytes(state[-24:-16], "little")) if state else (0, 0)
+
+    def make_earlier(self):
+        """Puts a STATE of this version, if there is one, into version 2's form: by convert, which stands beside the program."""
+        state = read(self.state)
+        if len(state) != 820:
+            return
+        convert, image = os.path.join(os.path.dirname(os.path.abspath(self.program)), "convert"), self.state + ".image"
+        subprocess.run([convert, "image", "--back", write(image, state[:788]), image], check=True)
+        earlier, checksum = read(image) + state[788:-8], 14695981039346656037
+        for byte in earlier:
+            checksum = (checksum ^ byte) * 1099511628211 % 2**64
+        write(self.state, earlier + checksum.to_bytes(8, "little"))
+        os.remove(image)

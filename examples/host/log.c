@@ -1,4 +1,5 @@
-/* log: logs one voltage channel through pq_begin and pq_advance of pq.h.
+/* log: logs one voltage channel through pq_begin and pq_advance of pq.h, and goes on from what
+ * version 2 kept, by pq_convert_image.
  *
  *   log                 settings, then samples, from standard input; prints what the event program
  *                       prints: heading, records, count of values; and behind the line of a record
@@ -18,10 +19,13 @@
  * values, comes at the end of the input and is not counted in STATE, so that a run with more input
  * cuts it too.
  *
- * A run changes nothing where STATE is damaged or of a version with another image, where LOG does not
- * begin with the lines that STATE counts, where there is a LOG with something in it and no STATE, and
- * where another run has LOG. Which STATE, LOG and recording belong together is the caller's to know
- * where lines and settings are alike.
+ * A STATE of version 2, which has a shorter image before the same numbers, is taken, too; the next
+ * STATE is of this version. LOG is the same text in both.
+ *
+ * A run changes nothing where STATE is damaged or of yet another version, where LOG does not begin
+ * with the lines that STATE counts, where there is a LOG with something in it and no STATE, and where
+ * another run has LOG. Which STATE, LOG and recording belong together is the caller's to know where
+ * lines and settings are alike.
  *
  * A regular file as standard input is read from its first byte on when a run begins; one that goes on
  * takes it up behind the samples taken so far, and stops if its settings are others or it has fewer
@@ -57,13 +61,13 @@ enum {
     ROOM = 8 * PQ_RECORD_SIZE,
     LINE = 120,   /* enough for a kind of 12 letters, four numbers of 20 digits and the mark's word */
 
-    /* STATE: the image, then four numbers of 8 bytes. */
-    STATE_TAKEN = PQ_IMAGE_SIZE,
+    /* STATE: the image, then four numbers of 8 bytes, at these places behind it. */
+    STATE_TAKEN = 0,
     STATE_LENGTH = STATE_TAKEN + 8,
     STATE_LINES_SUM = STATE_LENGTH + 8,
     STATE_SUM = STATE_LINES_SUM + 8, /* of all the bytes before it */
-    STATE_SIZE = STATE_SUM + 8,
-    STATE_NUMBERS = STATE_SIZE - PQ_IMAGE_SIZE,
+    STATE_NUMBERS = STATE_SUM + 8,
+    STATE_SIZE = PQ_IMAGE_SIZE + STATE_NUMBERS,
     STATE_MOST = 4096 /* of any version; a longer one counts as damaged */
 };
 
@@ -259,12 +263,12 @@ static void keep(const struct meter *meter)
         return;
     sync_file(meter->lines, meter->log);
 
-    uint8_t state[STATE_SIZE];
+    uint8_t state[STATE_SIZE], *numbers = state + PQ_IMAGE_SIZE;
     memcpy(state, meter->images[meter->now], PQ_IMAGE_SIZE);
-    pq_put_u64(state + STATE_TAKEN, meter->taken);
-    pq_put_u64(state + STATE_LENGTH, meter->length);
-    pq_put_u64(state + STATE_LINES_SUM, meter->sum);
-    pq_put_u64(state + STATE_SUM, checksum(SUM_OF_NONE, state, STATE_SUM));
+    pq_put_u64(numbers + STATE_TAKEN, meter->taken);
+    pq_put_u64(numbers + STATE_LENGTH, meter->length);
+    pq_put_u64(numbers + STATE_LINES_SUM, meter->sum);
+    pq_put_u64(numbers + STATE_SUM, checksum(SUM_OF_NONE, state, PQ_IMAGE_SIZE + STATE_SUM));
     int file = open(meter->beside, O_WRONLY | O_CREAT | O_TRUNC, 0666);
     if (file < 0)
         fail(meter->beside);
@@ -329,12 +333,22 @@ static void begin(struct meter *meter)
     keep(meter);
 }
 
-/* Takes the channel from STATE, if there is one. An advance with no samples says whether its image
- * is good: one of another version, shorter or longer, before the same four numbers, is refused by its
- * length. */
+/* Makes the image in STATE the channel's, if it is good. One of version 2 is told by its length, and
+ * converted; of any other an advance with no samples says whether it is good, and one of another
+ * length is refused. */
+static uint32_t take_image(struct meter *meter, const uint8_t *image, size_t length)
+{
+    uint8_t reply[PQ_REPLY_SIZE], none[1] = {0};
+    if (length == PQ_EARLIER_IMAGE_SIZE)
+        return pq_convert_image(image, length, meter->images[0], PQ_IMAGE_SIZE);
+    return pq_advance(image, length, none, 0, meter->images[0], PQ_IMAGE_SIZE, none, 0,
+                      reply, sizeof reply);
+}
+
+/* Takes the channel from STATE, if there is one. */
 static bool load(struct meter *meter)
 {
-    uint8_t state[STATE_MOST + 1], reply[PQ_REPLY_SIZE], none[1] = {0};
+    uint8_t state[STATE_MOST + 1];
     int file = open(meter->state, O_RDONLY);
     if (file < 0 && errno == ENOENT)
         return false;
@@ -346,13 +360,13 @@ static bool load(struct meter *meter)
         || checksum(SUM_OF_NONE, state, length - 8) != pq_get_u64(state + length - 8))
         stop("%s: damaged", meter->state);
 
-    uint32_t number = pq_advance(state, length - STATE_NUMBERS, none, 0,
-                                 meter->images[0], PQ_IMAGE_SIZE, none, 0, reply, sizeof reply);
+    const uint8_t *numbers = state + length - STATE_NUMBERS;
+    uint32_t number = take_image(meter, state, length - STATE_NUMBERS);
     if (number != PQ_OK)
         refuse(number);
-    meter->taken = pq_get_u64(state + STATE_TAKEN);
-    meter->length = pq_get_u64(state + STATE_LENGTH);
-    meter->sum = pq_get_u64(state + STATE_LINES_SUM);
+    meter->taken = pq_get_u64(numbers + STATE_TAKEN);
+    meter->length = pq_get_u64(numbers + STATE_LENGTH);
+    meter->sum = pq_get_u64(numbers + STATE_LINES_SUM);
     if (meter->taken > MOST_TAKEN)
         stop("%s: more samples than a file can have", meter->state);
     return true;
@@ -458,9 +472,9 @@ static enum end take_input(struct meter *meter, uint64_t most)
  * line: none is written any more. */
 static void finish(struct meter *meter, enum end end)
 {
-    uint32_t values = pq_get_u32(meter->images[meter->now] + PQ_IMAGE_VALUES);
+    uint64_t values = pq_get_u64(meter->images[meter->now] + PQ_IMAGE_VALUES);
     if (end != ENOUGH_TAKEN)
-        put_line(meter, "values %" PRIu32 "\n", values);
+        put_line(meter, "values %" PRIu64 "\n", values);
     if (meter->state != NULL)
         sync_file(meter->lines, meter->log);
     close_file(meter->lines, meter->log);

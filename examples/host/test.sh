@@ -1,5 +1,6 @@
 #!/usr/bin/env bash
-# Tests the header, the library, and log, the example of a host in C: plain, with the sanitizers, and under valgrind. 'make test' builds it and runs this.
+# Tests the header, the library, and log and convert, the examples of a host in C: plain, with the sanitizers, and under valgrind. 'make test' builds them and
+# runs this.
 # Stops at the first difference.
 set -euo pipefail
 cd "$(dirname "$0")/.."
@@ -36,9 +37,16 @@ for byte in state:
 sys.stdout.buffer.write(state + sum.to_bytes(8, "little"))'
 }
 
+# earlier FILE: a STATE in the form of version 2, with an image of 764 bytes in the place of 788.
+earlier() {
+    head -c 788 "$1" >"$work/image"
+    "$OUT/convert" image --back "$work/image" "$work/earlier image"
+    { cat "$work/earlier image"; tail -c 32 "$1"; } | sealed
+}
+
 # taken: samples taken, in STATE; nothing without a STATE.
 taken() {
-    if [ -f "$state" ]; then od -An -tu8 -j764 -N8 "$state" | tr -d ' '; fi
+    if [ -f "$state" ]; then od -An -tu8 -j788 -N8 "$state" | tr -d ' '; fi
 }
 
 # ends NAME STATUS OUTPUT MESSAGE WORDS..: standard input to the command in LOG, which must end with this status, print only this and say this.
@@ -108,6 +116,33 @@ goes_on() {
     kept "$1: worked, of which others have read" worked
 }
 
+# handed_up NAME RECORDING SAMPLES..: a run for each number of samples, then one for the rest; each but the first finds a STATE of version 2.
+handed_up() {
+    local samples
+    rm -f "$state" "$log"
+    for samples in "${@:3}" ""; do
+        [ ! -f "$state" ] || { earlier "$state" >"$work/earlier"; cp "$work/earlier" "$state"; }
+        "${LOG[@]}" "$state" "$log" ${samples:+"$samples"} <"$2.bin"
+    done
+    kept "$1" "$2"
+}
+
+# updated NAME: the STATE of version 2, after the numbers of samples in CRUSHER, but the eleventh, which leaves nothing to take, in BUSY, in WORKED. A run that
+# takes no sample leaves it as it is.
+updated() {
+    for cut in "${CRUSHER[@]::10}"; do
+        handed_up "$1: crusher, updated after $cut samples" crusher "$cut"
+    done
+    handed_up "$1: busy, updated after ${BUSY[*]} samples" busy "${BUSY[@]}"
+    handed_up "$1: worked, updated after ${WORKED[*]} samples" worked "${WORKED[@]}"
+    anew
+    earlier "$work/good" >"$state"
+    cp "$state" "$work/earlier"
+    "${LOG[@]}" "$state" "$log" 0 <worked.bin
+    same "$1: no sample after an update, STATE" "$work/earlier" "$state"
+    same "$1: no sample after an update, LOG" "$work/counted" "$log"
+}
+
 # clipped NAME: the marked records, and no others, have the word behind their line; also handed over after the numbers of samples in CLIPPED.
 clipped() {
     "${LOG[@]}" <"$work/clipped.bin" >"$work/got"
@@ -173,7 +208,7 @@ refuses_state() {
     anew
     for edit in "${DAMAGE[@]}"; do
         case $edit in
-            short) head -c 795 "$work/good" ;;
+            short) head -c 819 "$work/good" ;;
             long) cat "$work/good" - <<<'' ;;
             empty) ;;
             numbers) head -c 32 "$work/good" ;;
@@ -192,21 +227,31 @@ refuses_state() {
 68:\010\0\0\0 11 the image has another part that cannot be
 92:\01\0\0\0 11 the image has another part that cannot be
 END
+    # A STATE of version 2 that is damaged, or that is whole and whose image version 2 refuses: the table, the settings, a body.
+    earlier "$work/good" >"$work/earlier"
+    with 100 '\02\0\0\0' "$work/earlier" >"$state"
+    stops "$1: STATE of version 2, damaged" "$state: damaged" "$state" "$log" <worked.bin
+    for edit in '28:\0304\02\0120\0' '36:\0\0\0\0' '68:\010\0\0\0'; do
+        with "${edit%%:*}" "${edit#*:}" "$work/earlier" | sealed >"$state"
+        cp "$state" "$work/state before"
+        ends "$1: STATE of version 2 with $edit, sealed" 1 'refused 19\n' "log: refused: $not_good\n" "$state" "$log" <worked.bin
+        left "$1: STATE of version 2 with $edit, sealed"
+    done
     # A STATE of version 1, whose images have 620 bytes; with images of other lengths, 4064 at most; and one too long.
-    { head -c 764 "$work/good"; head -c 3300 /dev/zero; } >"$work/long image"
-    for length in 620 0 763 765 4064; do
+    { head -c 788 "$work/good"; head -c 3276 /dev/zero; } >"$work/long image"
+    for length in 620 0 763 765 787 789 4064; do
         { head -c "$length" "$work/long image"; tail -c 32 "$work/good"; } | sealed >"$state"
         cp "$state" "$work/state before"
-        ends "$1: STATE with an image of $length bytes" 1 'refused 8\n' 'log: refused: the image is not 764 bytes\n' "$state" "$log" <worked.bin
+        ends "$1: STATE with an image of $length bytes" 1 'refused 8\n' 'log: refused: the image is not 788 bytes\n' "$state" "$log" <worked.bin
         left "$1: STATE with an image of $length bytes"
     done
-    { cat "$work/good"; head -c 3301 /dev/zero; } | sealed >"$state"
+    { cat "$work/good"; head -c 3277 /dev/zero; } | sealed >"$state"
     stops "$1: STATE with 4097 bytes" "$state: damaged" "$state" "$log" <worked.bin
     # 4611686018427387885 samples end at the last byte that a file can have.
-    with 768 '\0377\0377\0377\077' "$work/good" >"$work/many"
-    with 764 '\0355\0377\0377\0377' "$work/many" | sealed >"$state"
+    with 792 '\0377\0377\0377\077' "$work/good" >"$work/many"
+    with 788 '\0355\0377\0377\0377' "$work/many" | sealed >"$state"
     stops "$1: most samples" "standard input: fewer samples than $state counts" "$state" "$log" <worked.bin
-    with 764 '\0356\0377\0377\0377' "$work/many" | sealed >"$state"
+    with 788 '\0356\0377\0377\0377' "$work/many" | sealed >"$state"
     stops "$1: one sample more" "$state: more samples than a file can have" "$state" "$log" <worked.bin
 }
 
@@ -220,7 +265,7 @@ refuses_log() {
     tail -c +2 busy.txt >"$log"
     stops "$1: another LOG" "$log: not the lines that $state counts" "$state" "$log" <worked.bin
     cp "$work/counted" "$log"
-    with 772 "\\0$(printf %o $(($(wc -c <"$log") + 1)))\\0\\0\\0" "$work/good" | sealed >"$state"
+    with 796 "\\0$(printf %o $(($(wc -c <"$log") + 1)))\\0\\0\\0" "$work/good" | sealed >"$state"
     stops "$1: LOG one byte too short" "$log: not the lines that $state counts" "$state" "$log" <worked.bin
     cp "$work/good" "$state"
     rm "$log"
@@ -307,19 +352,139 @@ at_once() {
     same "$1: LOG replaced, LOG left as it was" "$work/log before" "$log"
 }
 
-# values_end NAME: a channel at its last value, never yet steady. It takes the 7 samples that complete no value, and no more in a second run.
-values_end() {
+# forged LOW HIGH: a STATE after 16 samples, never yet steady, with a V of these bytes, low and high.
+forged() {
     rm -f "$state" "$log"
     "${LOG[@]}" "$state" "$log" 16 <worked.bin
-    with 100 '\0377\0377\0377\0377' "$state" >"$work/most"
-    with 704 '\01\0\0\0' "$work/most" | sealed >"$state"
-    { cat "$log"; echo "values 4294967295"; } >"$work/want"
+    with 100 "$1" "$state" >"$work/low"
+    with 104 "$2" "$work/low" >"$work/high"
+    with 708 '\01\0\0\0' "$work/high" | sealed
+}
+
+# values_end NAME: a channel at its last value. It takes the 7 samples that complete no value, and no more in a second run.
+values_end() {
+    forged '\0377\0377\0377\0377' '\0377\0377\0377\0177' >"$work/most"
+    cp "$work/most" "$state"
+    { cat "$log"; echo "values 9223372036854775807"; } >"$work/want"
     for run in first second; do
         ends "$1: the values' end, $run run" 3 '' 'log: the count of values is at its end: further samples are not taken\n' "$state" "$log" <worked.bin
         same "$1: the values' end, $run run, LOG" "$work/want" "$log"
         [ "$(taken)" = 23 ] || { echo "different: $1: the values' end, samples taken"; exit 1; }
     done
 }
+
+# past_4_bytes NAME: a channel that version 2 left at its own last value, 4294967295, goes on; then there is no way back.
+past_4_bytes() {
+    forged '\0377\0377\0377\0377' '\0\0\0\0' >"$work/most"
+    earlier "$work/most" >"$state"
+    "${LOG[@]}" "$state" "$log" <worked.bin
+    same "$1: past 4 bytes" <(printf 'kind start halves first second\ndip 4294967297 3 800 0\nvalues 4294967301\n') "$log"
+    head -c 788 "$state" >"$work/image"
+    refuses_conversion "$1: an image past 4 bytes" 18 "$too_wide" image --back "$work/image"
+}
+
+# refuses_conversion NAME NUMBER TEXT WORDS..: convert with these words, IN the last of them, is refused, and leaves OUT as it was.
+refuses_conversion() {
+    local LOG=("${CONVERT[@]}")
+    for before in there "not there"; do
+        rm -f "$files/out"
+        [ "$before" != there ] || echo "what was there" >"$files/out"
+        ends "$1, OUT $before" 1 "refused $2\n" "convert: ${*: -1}: refused: $3\n" "${@:4}" "$files/out"
+        if [ "$before" = there ]; then
+            same "$1, OUT left as it was" <(echo "what was there") "$files/out"
+        fi
+        [ -z "$(find "$files" -name 'out*' ! -name out)" ] || { ls "$files"; echo "different: $1: files are made"; exit 1; }
+        [ "$before" = there ] || [ ! -e "$files/out" ] || { echo "different: $1: OUT is made"; exit 1; }
+    done
+    rm -f "$files/out"
+}
+
+# converted NAME WHAT EARLIER NOW: convert carries one file into the other and back, also over a file that is there, and leaves IN as it was.
+converted() {
+    for before in "not there" there; do
+        cp "$3" "$files/in"
+        "${CONVERT[@]}" "$2" "$files/in" "$files/out"
+        same "$1, OUT $before" "$4" "$files/out"
+        same "$1, IN left as it was" "$3" "$files/in"
+    done
+    "${CONVERT[@]}" "$2" --back "$4" "$files/out"
+    same "$1, back" "$3" "$files/out"
+    rm "$files/in" "$files/out"
+}
+
+# converts NAME: the command in CONVERT on files of records and of images.
+converts() {
+    printf '%b' '\04\0\0\0\0227\0\0\0\01\0\0\0\0340\030\0\0\0340\030\0\0' >"$work/record 20"
+    printf '%b' '\04\0\0\0\0227\0\0\0\0\0\0\0\01\0\0\0\0\0\0\0\0340\030\0\0\0340\030\0\0' >"$work/record 28"
+    : >"$work/no records"
+    for length in 20 28; do
+        python3 -c 'import sys; sys.stdout.buffer.write(5000 * open(sys.argv[1], "rb").read())' "$work/record $length" >"$work/records $length"
+    done
+    converted "$1: a record" records "$work/record 20" "$work/record 28"
+    converted "$1: many records" records "$work/records 20" "$work/records 28"
+    converted "$1: no records" records "$work/no records" "$work/no records"
+    for recording in worked crusher busy; do
+        head -c 788 "$work/$recording state" >"$work/image 788"
+        earlier "$work/$recording state" | head -c 764 >"$work/image 764"
+        converted "$1: the image of $recording" image "$work/image 764" "$work/image 788"
+    done
+
+    refuses_conversion "$1: records of this version" 19 "$not_good" records "$work/record 28"
+    refuses_conversion "$1: records of version 2, back" 19 "$not_good" records --back "$work/record 20"
+    refuses_conversion "$1: an image of this version" 19 "$not_good" image "$work/image 788"
+    refuses_conversion "$1: an image of version 2, back" 19 "$not_good" image --back "$work/image 764"
+    refuses_conversion "$1: an empty file for an image" 19 "$not_good" image "$work/no records"
+    with 8 '\01\0\0\0' "$work/record 28" >"$work/wide"
+    refuses_conversion "$1: a start past 4 bytes" 18 "$too_wide" records --back "$work/wide"
+    with 16 '\01\0\0\0' "$work/record 28" >"$work/wide"
+    refuses_conversion "$1: a duration past 4 bytes" 18 "$too_wide" records --back "$work/wide"
+    refuses_convert_files "$1"
+}
+
+# refuses_convert_files NAME: words that name nothing, and files that cannot be there.
+refuses_convert_files() {
+    local LOG=("${CONVERT[@]}") usage='convert records [--back] IN OUT\nconvert image [--back] IN OUT\n'
+    local words
+    while read -ra words; do
+        ends "$1: convert ${words[*]}" 2 '' "$usage" "${words[@]}"
+    done <<'END'
+
+records
+records in
+samples in out
+records --there in out
+records --back in
+records --back in out more
+image in out more
+END
+    ends "$1: no IN" 2 '' "convert: $files/none: No such file or directory\n" records "$files/none" "$files/out"
+    ends "$1: IN is a folder" 2 '' "convert: $files: Is a directory\n" records "$files" "$files/out"
+    ends "$1: no folder of OUT" 2 '' "convert: $files/none/out.new: No such file or directory\n" records "$work/record 20" "$files/none/out"
+    ends "$1: OUT is a folder" 2 '' "convert: $files: Is a directory\n" records "$work/record 20" "$files"
+    rm "$files.new"
+    refuses_one_file "$1" records "$work/record 20"
+    refuses_one_file "$1" image "$work/image 764"
+}
+
+# refuses_one_file NAME WHAT FILE: an IN that is OUT or OUT.new, by that name and by others, is left as it was.
+refuses_one_file() {
+    local place name
+    for place in out out.new; do
+        cp "$3" "$files/$place"
+        ln "$files/$place" "$files/link"
+        ln -s "$place" "$files/symbolic"
+        for name in "$place" "./$place" link symbolic; do
+            ends "$1: $2, IN $name is $place" 2 '' "convert: $files/$name: is $files/out or $files/out.new, too\n" "$2" "$files/$name" "$files/out"
+            same "$1: $2, IN $name is $place, left as it was" "$3" "$files/$place"
+        done
+        rm "$files/$place" "$files/link" "$files/symbolic"
+    done
+    [ -z "$(ls "$files"/out* 2>/dev/null)" ] || { ls "$files"; echo "different: $1: $2, files are made"; exit 1; }
+}
+
+# What a refusal of a conversion says.
+not_good="not a good image, or not whole records, of the edition that is converted from"
+too_wide="a number is above 4294967295, the earlier edition's greatest"
 
 # The header alone, and with all its functions in use: in C and C++.
 echo '#include "pq.h"' >"$work/alone.c"
@@ -331,18 +496,21 @@ for compiler in "gcc -std=c99 -x c" "clang -std=c99 -x c" "g++ -std=c++17 -Wold-
     echo "same: include/pq.h by ${compiler%% -x*}"
 done
 
-# The library defines the four calls and needs three functions of a C library.
-nm -g "$LIBRARY" | awk 'NF > 1 && !/ (T pq_(begin|advance|try|count_day)|U mem(cpy|move|set))$/ { print; other = 1 } END { exit other }'
+# The library defines the eight calls and needs three functions of a C library.
+calls='begin|advance|try|count_day|convert_(records|image)(_back)?'
+nm -g "$LIBRARY" | awk "NF > 1 && !/ (T pq_($calls)|U mem(cpy|move|set))\$/ { print; other = 1 } END { exit other }"
 echo "same: names of the library"
 size "$LIBRARY" | awk 'NR > 1 && $2 + $3 > 0 { print "data: " $0; data = 1 } END { exit data }'
 echo "same: the library has no data of its own"
 # The size that docs/INTEGRATION.md promises: code and constants, in bytes.
-size "$LIBRARY" | awk 'NR > 1 { sum += $1 } END { if (sum == 0 || sum > 20000) { print "size: " sum; exit 1 } }'
+size "$LIBRARY" | awk 'NR > 1 { sum += $1 } END { if (sum == 0 || sum > 26000) { print "size: " sum; exit 1 } }'
 echo "same: the library is within its bound"
 
 # The stack that docs/INTEGRATION.md promises, in bytes.
 gcc -std=c99 -Wall -Wextra -Werror -O2 -I../include -Wl,-z,now ../bench/stack.c "$LIBRARY" -o "$work/stack"
-"$work/stack" | awk '{ used = $(NF - 1) } used > (/^begin/ ? 2816 : /^count/ ? 512 : 7168) { print "stack: " $0; over = 1 } END { exit over || NR == 0 }'
+"$work/stack" | awk '{ bound = /^begin/ ? 2816 : /^count|^convert 1000/ ? 512 : /^convert an image/ ? 4096 : 7168 }
+                     $(NF - 1) > bound { print "stack: " $0; over = 1 }
+                     END { exit over || NR == 0 }'
 echo "same: the stack is within its bounds"
 
 # stored: the lines of log as the code in the document prints them.
@@ -369,8 +537,8 @@ swell 18 3 482885 0 clipped
 values 22
 END
 
-# The code in the document: on recordings in blocks of some lengths; and at the end of the count of values, where it must begin anew with a whole half-cycle.
-# For that the busy example becomes one under the document's settings, with each sample eight times.
+# The code in the document: on recordings in blocks of some lengths; with a count of values that passes 4 bytes; and at the end of the count, where it must
+# begin anew with a whole half-cycle. For that the busy example becomes one under the document's settings, with each sample eight times.
 awk '/^```$/ { code = 0 } code; /^```c$/ { code = 1 }' ../docs/INTEGRATION.md >"$work/integration.c"
 gcc -std=c99 -Wall -Wextra -pedantic -Wconversion -Werror -I../include -I"$work" ../tests/document.c "$LIBRARY" -o "$work/document"
 python3 -B -c '
@@ -383,13 +551,16 @@ for block in 1 7 64 4999; do
     done
     "$work/document" "$work/clipped.bin" $block >"$work/got"
     same "the code in docs/INTEGRATION.md: clipped, $block samples at a time" <(stored <"$work/clipped.txt") "$work/got"
+    "$work/document" crusher.bin $block 4294967290 >"$work/got"
+    same "the code in docs/INTEGRATION.md: past 4 bytes, $block samples at a time" \
+        <(awk '{ $2 = sprintf("%.0f", $2 + 4294967289) } 1' crusher.txt | stored) "$work/got"
     while read -r values halves; do
         { head -c 36 "$work/wide.bin"; tail -c "+$((36 + 128 * halves + 1))" "$work/wide.bin"; } | "$OUT/log" | stored >"$work/want"
         "$work/document" "$work/wide.bin" $block "$values" >"$work/got" 2>&1
         same "the code in docs/INTEGRATION.md: from value $values on, $block samples at a time" "$work/want" "$work/got"
     done <<'END'
-4294967290 8
-4294967295 3
+9223372036854775802 8
+9223372036854775807 3
 END
 done
 [ "$(wc -l <"$work/got")" = 121 ] || { echo "different: the records behind the values' end"; exit 1; }
@@ -410,7 +581,17 @@ for records in 4 7 100; do
     done
 done
 
-# Its count of a day, of records given as lines: the crusher's, on both sides of a midnight, on the limits of 3 % and 5 %, at the cap and over it; at 60 Hz, too.
+# Its code for an update from version 2: a channel and its records, carried over after some samples, and back before.
+gcc -std=c99 -Wall -Wextra -pedantic -Wconversion -Werror -I../include -I"$work" ../tests/update.c "$LIBRARY" -o "$work/update"
+for recording in worked crusher busy; do
+    for cut in 0 1 40 63 8001 12799; do
+        "$work/update" $recording.bin $cut >"$work/got"
+        same "the code in docs/INTEGRATION.md: $recording, updated after $cut samples" <(stored <$recording.txt) "$work/got"
+    done
+done
+
+# Its count of a day, of records given as lines: the crusher's, on both sides of a midnight, on the limits of 3 % and 5 %, at the cap and over it; at 60 Hz,
+# too.
 gcc -std=c99 -Wall -Wextra -pedantic -Wconversion -Werror -I../include -I"$work" ../tests/contract.c "$LIBRARY" -o "$work/contract"
 with 4 '\074\0\0\0' crusher.bin >"$work/crusher 60.bin"
 # counted TIMES LINES SECONDS DAY EXPECTED [RECORDING]: so many times these lines.
@@ -441,6 +622,9 @@ all_tests() {
     refuses_names "$1"
     at_once "$1"
     values_end "$1"
+    updated "$1"
+    past_4_bytes "$1"
+    converts "$1"
 }
 
 PAUSE=0.1
@@ -448,10 +632,12 @@ CRUSHER=(0 1 63 64 8000 8001 12799 22751 30000 38399 38400)
 BUSY=(1770 8 8 8 9 100 1)
 WORKED=(9 9 9 9 9 9 9)
 CLIPPED=(24 25 31 32 33 40 41 48 144 145 152 160 168)
-DAMAGE=(short long empty numbers 0:'\02\0\0\0' 100:'\02\0\0\0' 764:'\051\0\0\0' 772:'\01\0\0\0' 780:'\0\0\0\0' 792:'\0\0\0\0')
+DAMAGE=(short long empty numbers 0:'\02\0\0\0' 100:'\02\0\0\0' 788:'\051\0\0\0' 796:'\01\0\0\0' 804:'\0\0\0\0' 816:'\0\0\0\0')
 LOG=("$OUT/log")
+CONVERT=("$OUT/convert")
 all_tests plain
 LOG=("$OUT/log-sanitized")
+CONVERT=("$OUT/convert-sanitized")
 all_tests sanitized
 # Each run takes long: fewer of them.
 PAUSE=1
@@ -461,10 +647,14 @@ WORKED=(9 9)
 CLIPPED=(33)
 DAMAGE=(short)
 LOG=(valgrind --quiet --leak-check=full --error-exitcode=9 "$OUT/log")
+CONVERT=(valgrind --quiet --leak-check=full --error-exitcode=9 "$OUT/convert")
 prints valgrind
 goes_on valgrind
 clipped valgrind
 refuses_state valgrind
 refuses_input valgrind
 values_end valgrind
+updated valgrind
+past_4_bytes valgrind
+converts valgrind
 echo "all the same"

@@ -4,6 +4,7 @@
 
 use crate::arguments::Arguments;
 use crate::engineer::{Call, Engineer, Fed, Looked};
+use crate::far::Far;
 use crate::images::{self, Fields};
 use crate::lists::{after_trial, next_call};
 use crate::marks::Marks;
@@ -22,13 +23,13 @@ use std::process::exit;
 const MOST_SAMPLES: usize = 32_767;
 pub const PLACES: usize = 16;
 /// The longest record buffer: enough for most blocks, and not too much to print.
-const ROOM: usize = 400;
+pub const ROOM: usize = 14 * RECORD;
 /// The lists that the gate runs the program on in one go, by their numbers under a seed: together
 /// they have everything that is counted.
 const FILES_SEED: u64 = 1;
-const FILES_LISTS: [u64; 20] = [
-    42, 229, 260, 628, 1730, 11889, 13059, 56980, 68345, 69618, 75432, 88845, 120540, 124731,
-    149916, 151403, 151606, 158724, 162251, 199736,
+const FILES_LISTS: [u64; 22] = [
+    535, 1156, 1855, 2373, 2454, 4019, 4662, 15311, 20100, 21984, 30930, 37862, 40140, 46659,
+    46851, 48655, 51198, 52132, 54138, 70211, 85684, 88845,
 ];
 
 /// The kinds of item, in the program's numbers.
@@ -56,6 +57,8 @@ pub struct Tally {
     marks: Marks,
     /// What dips and swells that stand before a change have shown.
     stands: Stands,
+    /// What feeds about the end of 4 bytes and at V's end have shown.
+    far: Far,
     /// Phases, and dips, swells and interruptions that stand, in what look tells.
     phases: [u64; 4],
     stand: [u64; 3],
@@ -111,6 +114,7 @@ impl Tally {
         list.extend(self.trials.counts());
         list.extend(self.marks.image_counts());
         list.extend(self.stands.recording_counts());
+        list.extend(self.far.often_counts());
         list
     }
 }
@@ -365,6 +369,7 @@ impl List {
                 told = Some(fed);
                 if kind == FEED {
                     taken = fed.taken as usize;
+                    seen.far.feed(&image, &measure.image, &records, fed.why);
                 }
                 (kind, fed_line(call.name(), &fed, &buffer(*room, fill, &records)))
             }
@@ -487,7 +492,8 @@ pub fn example_samples() -> Vec<i16> {
 fn example(seen: &mut Tally) -> List {
     let block = example_samples();
     let trial = |room| Call::Trial { block: block.clone(), room };
-    let calls = [trial(0), trial(25), Call::Feed { block: block.clone(), room: 20 }, Call::Look];
+    let feed = Call::Feed { block: block.clone(), room: RECORD };
+    let calls = [trial(0), trial(RECORD + 5), feed, Call::Look];
     let mut list = List::default();
     let mut measure = list.start(&Q, calls.len(), 0, seen);
     for call in calls {
@@ -503,6 +509,15 @@ pub fn files(seen: &mut Tally) -> List {
         all.append(list(&mut Rng::of_case(FILES_SEED, number), seen));
     }
     all
+}
+
+/// Bytes that restore accepts: the same logger just before an end of what counts values, or any.
+fn accepted(rng: &mut Rng, s: &Settings, image: &[u8]) -> Vec<u8> {
+    let moved = images::before_an_end(rng, &Fields::of(image), 2 * s.n);
+    match moved {
+        Some(x) if rng.chance(50) => x.bytes(),
+        _ => images::accepted(rng, *s),
+    }
 }
 
 fn make_calls(
@@ -543,7 +558,7 @@ fn make_calls(
             _ => {}
         }
         let call = if strange && rng.chance(15) {
-            Call::RestoreBytes { bytes: images::accepted(rng, *s) }
+            Call::RestoreBytes { bytes: accepted(rng, s, &measure.image) }
         } else {
             after_trial(rng, last)
                 .unwrap_or_else(|| next_call(rng, s, &source, saves, &measure.image, calls - j))

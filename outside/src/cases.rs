@@ -1,13 +1,23 @@
-//! Random cases: settings, lists of calls, counts of a day, images, damaged images. Each is run on
-//! every implementation, and the first difference is told.
+//! Random cases: settings, lists of calls, counts of a day, conversions, images, damaged images. Each is
+//! run on every implementation, and the first difference is told.
 
+use crate::editions::THIS;
 use crate::hosts::{demand, Lengths, Outcome, Run};
 use crate::images::{self, Fields};
+use crate::lists::recording;
 use crate::logger::Logger;
+use crate::moved::Moved;
 use crate::readings::{Readings, Record};
 use crate::rng::{one_of, Rng};
-use crate::rules::{self, settings_bytes, Settings, IMAGE};
+use crate::rules::{self, settings_bytes, Settings, IMAGE, RECORD};
 use crate::{clips, pairs, stands, waves};
+
+/// What several advances have come to: the samples taken, the records written, the image.
+struct Advanced {
+    taken: u64,
+    written: Vec<u8>,
+    image: Vec<u8>,
+}
 
 impl Run<'_> {
     /// One case.
@@ -16,9 +26,11 @@ impl Run<'_> {
             0..=9 => self.settings_case(rng),
             10..=44 => self.list_case(rng),
             45..=47 => self.day_case(rng),
-            48..=74 => self.image_case(rng),
+            48..=49 => self.convert_case(rng),
+            50..=74 => self.image_case(rng),
             75..=76 => self.stands_case(rng),
-            77..=90 => self.damaged_case(rng),
+            77..=78 => self.far_case(rng),
+            79..=90 => self.damaged_case(rng),
             91..=95 => self.program_case(rng),
             _ => self.three_case(rng),
         }
@@ -35,7 +47,7 @@ impl Run<'_> {
         let number = rules::settings(&bytes).err().unwrap_or(0);
         let by_logger = Logger::start(&bytes).err().unwrap_or(0);
         demand(number == by_logger, || format!("start: numbers {number} and {by_logger}"))?;
-        let length = one_of(&[IMAGE, IMAGE, IMAGE + 1, 900, 0, 1, 620, IMAGE - 1], rng);
+        let length = one_of(&[IMAGE, IMAGE, IMAGE + 1, 900, 0, 1, 764, IMAGE - 1], rng);
         let (begun, _) = self.begin(&bytes, length, rng.next() as u8)?;
         let expected = if number == 0 && length < IMAGE { 7 } else { number };
         demand(begun == expected, || format!("begin gives {begun}, not {expected}"))
@@ -45,7 +57,7 @@ impl Run<'_> {
     fn image_case(&mut self, rng: &mut Rng) -> Outcome<()> {
         let s = waves::settings(rng);
         let image = match rng.range(0, 9) {
-            0 => pairs::pair(rng, s).accepted.bytes(),
+            0 => pairs::pair(rng, &THIS, s).accepted.bytes(),
             1..=2 => {
                 let saved = recorded(rng, &s);
                 let changed = changed_byte(rng, &saved);
@@ -65,18 +77,18 @@ impl Run<'_> {
         Ok(())
     }
 
-    /// Advances from an image as the edition before saved it in a change, or from a steady one that no
+    /// Advances from an image as versions 2.0 and 2.1 saved it in a change, or from a steady one that no
     /// recording gives, with events that stand before a step.
     fn stands_case(&mut self, rng: &mut Rng) -> Outcome<()> {
         let s = waves::settings(rng);
-        match edition_before(rng, s) {
+        match version_before(rng, s) {
             Some((image, samples, record)) if rng.chance(50) => {
-                let records = self.advances(rng, &image.bytes(), &samples)?;
-                let change = stands::change(&records, record.start);
+                let records = self.advances(rng, &image.bytes(), &samples)?.written;
+                let change = stands::change(&records, record.start as u64);
                 demand(change.is_none_or(|x| x == record.bytes()), || {
                     format!("the record of the change is {change:?}, not {record:?}")
                 })?;
-                self.seen.stands.edition_before(&image, &records);
+                self.seen.stands.version_before(&image, &records);
             }
             _ => {
                 let (image, samples) = images::before_a_step(rng, s);
@@ -86,8 +98,17 @@ impl Run<'_> {
         Ok(())
     }
 
-    /// Advances over samples from an accepted image, block by block; gives the records written.
-    fn advances(&mut self, rng: &mut Rng, image: &[u8], samples: &[i16]) -> Outcome<Vec<u8>> {
+    /// Advances from the image of a recording, moved on so that V passes 2^32 − 1 or comes to its end:
+    /// what is written, and the image come to, are the recording's, moved on as far.
+    fn far_case(&mut self, rng: &mut Rng) -> Outcome<()> {
+        let (s, samples) = recording(rng);
+        let Some(x) = Moved::of(rng, &THIS, s, &samples) else { return Ok(()) };
+        let to = self.advances(rng, &x.image(0).bytes(), x.left())?;
+        x.demand(to.taken, &to.written, &to.image)
+    }
+
+    /// Advances over samples from an accepted image, block by block.
+    fn advances(&mut self, rng: &mut Rng, image: &[u8], samples: &[i16]) -> Outcome<Advanced> {
         demand(rules::restore(image) == 0, || "the built image is not accepted".into())?;
         self.kept_image(image)?;
         let first = Fields::of(image);
@@ -101,8 +122,7 @@ impl Run<'_> {
             let length = one_of(&[most, most, rng.range(0, most), s.m.min(most), 1.min(most)], rng);
             let lengths = Lengths {
                 image: IMAGE + one_of(&[0, 0, 1, 80], rng),
-                records: one_of(&[0, 19, 20, 40, 60, 79, 80, rng.range(0, 200), 4000, 4000], rng)
-                    as usize,
+                records: some_room(rng),
                 reply: 24 + one_of(&[0, 0, 1, 40], rng),
             };
             let fill = rng.next() as u8;
@@ -113,11 +133,12 @@ impl Run<'_> {
             demand(rules::restore(&x.image[..IMAGE]) == 0, || "the new image is refused".into())?;
             left = &left[2 * x.reply(0) as usize..];
             written.extend(x.written());
+            self.seen.far.feed(&image, &x.image, x.written(), x.reply(2));
             image = x.image[..IMAGE].to_vec();
             self.kept_image(&image)?;
         }
         self.seen.stands.accepted(&first, &written);
-        Ok(written)
+        Ok(Advanced { taken: (samples.len() - left.len()) as u64 / 2, written, image })
     }
 
     /// The logger of an accepted image looks as its bodies say, and saves the same image.
@@ -153,7 +174,7 @@ impl Run<'_> {
             }
             let lengths = Lengths {
                 image: one_of(&[IMAGE, IMAGE, IMAGE, IMAGE + 1, IMAGE - 1, 0, 24], rng),
-                records: one_of(&[0, 19, 20, 80], rng),
+                records: one_of(&[0, RECORD - 1, RECORD, 4 * RECORD], rng),
                 reply: one_of(&[24, 24, 24, 25, 23, 0, 8], rng),
             };
             let fill = rng.next() as u8;
@@ -175,7 +196,7 @@ impl Run<'_> {
 
     /// An image that breaks one rule of 11, or the nearest one that does not.
     fn at_a_rule(&mut self, rng: &mut Rng, s: Settings) -> Outcome<Vec<u8>> {
-        let pair = pairs::pair(rng, s);
+        let pair = pairs::pair(rng, &THIS, s);
         let broken = rng.chance(50);
         let image = if broken { pair.broken } else { pair.accepted }.bytes();
         let (number, expected) = (rules::restore(&image), if broken { 11 } else { 0 });
@@ -183,6 +204,15 @@ impl Run<'_> {
         self.seen.rule(pair.rule, broken);
         Ok(image)
     }
+}
+
+/// Room for records: none, whole ones, a byte less, any, or enough.
+fn some_room(rng: &mut Rng) -> usize {
+    let record = RECORD as i64;
+    let whole = record * rng.range(0, 4);
+    let any = rng.range(0, 10 * record);
+    let enough = 200 * record;
+    one_of(&[0, whole, whole, (whole - 1).max(0), any, enough, enough], rng) as usize
 }
 
 /// The logger's image.
@@ -198,13 +228,13 @@ fn recorded(rng: &mut Rng, s: &Settings) -> Vec<u8> {
     let samples = waves::bytes(&clips::wave(rng, s, halves));
     let cut = rng.range(0, samples.len() as i64 / 2) as usize;
     let mut logger = Logger::start(&settings_bytes(s)).unwrap();
-    logger.feed(&samples.as_chunks::<2>().0[..cut], &mut vec![0; 80 * 800]);
+    logger.feed(&samples.as_chunks::<2>().0[..cut], &mut vec![0; 4 * RECORD * 800]);
     image_of(&logger)
 }
 
-/// An image in a change that the edition before recorded, since it did not ask what stood at k − 1, as
-/// it was saved then; the samples after it; and the record.
-fn edition_before(rng: &mut Rng, s: Settings) -> Option<(Fields, Vec<i16>, Record)> {
+/// An image in a change that versions 2.0 and 2.1 recorded, since they did not ask what stood at k − 1,
+/// as it was saved then; the samples after it; and the record.
+fn version_before(rng: &mut Rng, s: Settings) -> Option<(Fields, Vec<i16>, Record)> {
     let samples = waves::recovery_wave(rng, &s);
     let x = Readings::of(s, &samples);
     let mut changes = x.changes().into_iter();
@@ -213,7 +243,7 @@ fn edition_before(rng: &mut Rng, s: Settings) -> Option<(Fields, Vec<i16>, Recor
     let halves = rng.range(k + 1, m);
     let saved = (halves * s.m + rng.range(0, s.m - 1)) as usize;
     let x = Readings::of(s, &samples[..saved]);
-    let image = Fields::of(&x.image()).but(|image| image.change[3] = x.first_stand(k) as u32);
+    let image = Fields::of(&x.image()).but(|image| image.change[3] = x.first_stand(k) as u64);
     Some((image, samples[saved..].to_vec(), record))
 }
 
@@ -231,7 +261,7 @@ pub fn damaged(rng: &mut Rng, image: &[u8]) -> Vec<u8> {
     match rng.range(0, 9) {
         0..=2 => changed_byte(rng, image),
         3 => {
-            let lengths = [0, 1, 32, 68, 620, IMAGE - 1, IMAGE + 1, 2 * IMAGE];
+            let lengths = [0, 1, 32, 68, 620, 764, IMAGE - 1, IMAGE + 1, 2 * IMAGE];
             bytes.resize(one_of(&lengths, rng), 0);
             bytes
         }
@@ -245,6 +275,6 @@ pub fn damaged(rng: &mut Rng, image: &[u8]) -> Vec<u8> {
             bytes[32..68].copy_from_slice(&bad);
             bytes
         }
-        _ => pairs::pair(rng, Fields::of(image).s).broken.bytes(),
+        _ => pairs::pair(rng, &THIS, Fields::of(image).s).broken.bytes(),
     }
 }

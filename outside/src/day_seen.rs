@@ -4,7 +4,9 @@
 
 use crate::day_hosts::Asked;
 use crate::days::REPLY;
-use crate::rules::{self, four, Settings, RECORD};
+use crate::entries::Entry;
+use crate::images::FOUR_BYTES;
+use crate::rules::{self, Settings, RECORD};
 use std::collections::BTreeMap;
 
 /// Half-cycles in a day at 50 and at 60 Hz.
@@ -13,37 +15,6 @@ const DAYS: [u64; 2] = [8_640_000, 10_368_000];
 /// The refusals in their order, and how many of them the settings have.
 const ORDER: [u32; 10] = [1, 2, 3, 4, 5, 6, 15, 16, 17, 13];
 const OF_SETTINGS: usize = 6;
-
-/// A record as numbers.
-#[derive(Clone, Copy, Default)]
-pub struct Entry {
-    pub kind: u8,
-    pub mark: u8,
-    pub zeros: [u8; 2],
-    pub start: u32,
-    pub duration: u32,
-    pub first: u32,
-    pub second: u32,
-}
-
-impl Entry {
-    pub fn of(b: &[u8]) -> Entry {
-        let [start, duration, first, second] = [4, 8, 12, 16].map(|at| four(b, at) as u32);
-        Entry { kind: b[0], mark: b[1], zeros: [b[2], b[3]], start, duration, first, second }
-    }
-
-    pub fn bytes(&self) -> Vec<u8> {
-        let mut b = vec![self.kind, self.mark, self.zeros[0], self.zeros[1]];
-        for x in [self.start, self.duration, self.first, self.second] {
-            b.extend(x.to_le_bytes());
-        }
-        b
-    }
-
-    fn is_bad(&self) -> bool {
-        self.kind == 0 || self.kind > 4
-    }
-}
 
 /// Half-cycles in a day under these settings.
 pub fn day_length(s: &Settings) -> u64 {
@@ -67,7 +38,7 @@ impl Asked {
     pub fn applying(&self) -> Vec<u32> {
         let settings = rules::settings(&self.settings);
         let longest = settings.map_or(DAYS[1], |s| day_length(&s));
-        let bad_kind = self.records.chunks_exact(RECORD).any(|x| Entry::of(x).is_bad());
+        let bad_kind = self.records.chunks_exact(RECORD).any(|x| Entry::of(x).has_bad_kind());
         let others =
             [self.z >= longest, self.records.len() % RECORD > 0, bad_kind, self.reply < REPLY];
         let others = ORDER[OF_SETTINGS..].iter().zip(others).filter(|x| x.1).map(|x| *x.0);
@@ -156,7 +127,7 @@ impl<'a> Sight<'a> {
 
     /// The only record of a bad kind, and its place.
     fn bad(&self) -> Option<(usize, &Entry)> {
-        let mut bad = self.records.iter().enumerate().filter(|x| x.1.is_bad());
+        let mut bad = self.records.iter().enumerate().filter(|x| x.1.has_bad_kind());
         bad.next().filter(|_| bad.next().is_none())
     }
 
@@ -215,9 +186,26 @@ const RECORDS: &[(&str, OfRecord)] = &[
     ("end on the day, start before", |x, r| {
         x.would_count(r) && x.at(r) < x.from && x.holds(x.at(r) + r.duration as i128)
     }),
-    ("z + start above 4 bytes, on the day", |x, r| x.counts(r) && x.at(r) >= 1 << 32),
-    ("z + start above 4 bytes, on the day where it wraps", |x, r| {
-        x.would_count(r) && !x.on_day(r) && x.holds(x.at(r) - (1 << 32))
+    ("z + start above 4 bytes, start not", |x, r| {
+        x.counts(r) && x.at(r) > FOUR_BYTES as i128 && r.start <= FOUR_BYTES
+    }),
+    ("start above 4 bytes", |x, r| x.counts(r) && r.start > FOUR_BYTES),
+    ("start of 2^32 - 1", |x, r| x.counts(r) && r.start == FOUR_BYTES),
+    ("start of 2^32", |x, r| x.counts(r) && r.start == FOUR_BYTES + 1),
+    ("start of 2^63 - 1", |x, r| x.counts(r) && r.start == u64::MAX >> 1),
+    ("start of 2^63", |x, r| x.counts(r) && r.start == 1 << 63),
+    ("start of 2^64 - 1", |x, r| x.counts(r) && r.start == u64::MAX),
+    ("on the day where the start is cut to 4 bytes", |x, r| {
+        let cut = x.asked.z as i128 + (r.start & FOUR_BYTES) as i128;
+        x.would_count(r) && !x.on_day(r) && x.holds(cut)
+    }),
+    ("z + start above 8 bytes, on the day", |x, r| x.counts(r) && x.at(r) >= 1 << 64),
+    ("z + start above 8 bytes, on the day where it wraps", |x, r| {
+        x.would_count(r) && !x.on_day(r) && x.holds(x.at(r) - (1 << 64))
+    }),
+    ("duration above 4 bytes", |x, r| x.counts(r) && r.duration > FOUR_BYTES),
+    ("start + duration above 8 bytes", |x, r| {
+        x.counts(r) && r.start.checked_add(r.duration).is_none()
     }),
     ("on the day with z only", |x, r| x.counts(r) && !x.holds(r.start as i128)),
     ("on the day without z only", |x, r| {
@@ -280,7 +268,7 @@ const REFUSED: &[(u32, &str, OfCall)] = &[
     (15, "z 2^64 - 1", |x| x.asked.z == u64::MAX),
     (16, "bad kind behind whole records", |x| {
         let rest = x.kind_of_rest().is_some_and(|kind| !(1..=4).contains(kind));
-        rest && !x.records.is_empty() && !x.records.iter().any(Entry::is_bad)
+        rest && !x.records.is_empty() && !x.records.iter().any(Entry::has_bad_kind)
     }),
     (16, "one byte too many", |x| x.asked.records.len() % RECORD == 1),
     (16, "one byte too few", |x| x.asked.records.len() % RECORD == RECORD - 1),

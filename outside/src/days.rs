@@ -1,6 +1,6 @@
 //! The count of a day, which network contracts cap: read off the paper one sentence at a time.
 
-use crate::rules::{self, four, Settings, RECORD};
+use crate::rules::{self, eight, four, Settings, RECORD};
 
 /// Bytes of a reply.
 pub const REPLY: usize = 32;
@@ -23,17 +23,17 @@ pub fn day_length(s: &Settings) -> i128 {
 
 /// The day of a record's start. Value 0 lies z half-cycles after midnight.
 fn day_of(s: &Settings, z: u64, record: &[u8]) -> i128 {
-    (z as i128 + four(record, 4) as i128) / day_length(s)
+    (z as i128 + eight(record, 4)) / day_length(s)
 }
 
 /// Whether the first magnitude is above 5 % of U. It is in N-ths of a sixteenth, U in sixteenths.
 fn first_counts(s: &Settings, record: &[u8]) -> bool {
-    100 * four(record, 12) as i128 > (5 * s.n * s.u) as i128
+    100 * four(record, 20) as i128 > (5 * s.n * s.u) as i128
 }
 
 /// Whether the second magnitude is at least 3 % of U.
 fn second_counts(s: &Settings, record: &[u8]) -> bool {
-    100 * four(record, 16) as i128 >= (3 * s.n * s.u) as i128
+    100 * four(record, 24) as i128 >= (3 * s.n * s.u) as i128
 }
 
 /// The counts of a day, above 35 kV or not: start's refusals 1 to 6, then 15, 16, 17.

@@ -157,7 +157,8 @@ impl Engineer {
             let to = self.values_of(old + n);
             records.iter().filter(|x| v < x.due && x.due <= to).copied().collect()
         };
-        let fits = |n: usize| due(n).len() <= room && self.values_of(old + n) <= END;
+        let within = |n: usize| i128::from(self.values_of(old + n)) <= END;
+        let fits = |n: usize| due(n).len() <= room && within(n);
         let mut taken = block.len();
         while !fits(taken) {
             taken -= 1;
@@ -165,7 +166,7 @@ impl Engineer {
         let written: Vec<u8> = due(taken).iter().flat_map(|x| x.bytes()).collect();
         let why = if taken == block.len() {
             0
-        } else if self.values_of(old + taken + 1) > END {
+        } else if !within(taken + 1) {
             2
         } else {
             1

@@ -44,6 +44,34 @@ mod library {
             reply: *mut u8,
             reply_length: usize,
         ) -> u32;
+
+        pub fn pq_convert_records(
+            earlier: *const u8,
+            earlier_length: usize,
+            records: *mut u8,
+            records_length: usize,
+        ) -> u32;
+
+        pub fn pq_convert_records_back(
+            records: *const u8,
+            records_length: usize,
+            earlier: *mut u8,
+            earlier_length: usize,
+        ) -> u32;
+
+        pub fn pq_convert_image(
+            earlier: *const u8,
+            earlier_length: usize,
+            image: *mut u8,
+            image_length: usize,
+        ) -> u32;
+
+        pub fn pq_convert_image_back(
+            image: *const u8,
+            image_length: usize,
+            earlier: *mut u8,
+            earlier_length: usize,
+        ) -> u32;
     }
 }
 
@@ -121,4 +149,32 @@ pub fn count_day(
             reply.len(),
         )
     }
+}
+
+/// The proved converter, from records of 20 bytes to records of 28.
+pub fn convert_records(given: &[u8], output: &mut [u8]) -> u32 {
+    let (length, room) = (given.len(), output.len());
+    // SAFETY: both slices are valid for their lengths during the call and do not overlap.
+    unsafe { library::pq_convert_records(given.as_ptr(), length, output.as_mut_ptr(), room) }
+}
+
+/// The proved converter, from records of 28 bytes to records of 20.
+pub fn convert_records_back(given: &[u8], output: &mut [u8]) -> u32 {
+    let (length, room) = (given.len(), output.len());
+    // SAFETY: both slices are valid for their lengths during the call and do not overlap.
+    unsafe { library::pq_convert_records_back(given.as_ptr(), length, output.as_mut_ptr(), room) }
+}
+
+/// The proved converter, from an image of 764 bytes to one of 788.
+pub fn convert_image(given: &[u8], output: &mut [u8]) -> u32 {
+    let (length, room) = (given.len(), output.len());
+    // SAFETY: both slices are valid for their lengths during the call and do not overlap.
+    unsafe { library::pq_convert_image(given.as_ptr(), length, output.as_mut_ptr(), room) }
+}
+
+/// The proved converter, from an image of 788 bytes to one of 764.
+pub fn convert_image_back(given: &[u8], output: &mut [u8]) -> u32 {
+    let (length, room) = (given.len(), output.len());
+    // SAFETY: both slices are valid for their lengths during the call and do not overlap.
+    unsafe { library::pq_convert_image_back(given.as_ptr(), length, output.as_mut_ptr(), room) }
 }

@@ -1,18 +1,18 @@
 //! Save and restore of the logger.
 
 use crate::limits::Limits;
-use crate::logger::{Change, Event, Logger, Phase, PLACES};
+use crate::logger::{Change, Event, Logger, Phase, END, PLACES};
 use crate::squares::Part;
 
 /// Bytes in an image.
-pub const IMAGE: usize = 764;
+pub const IMAGE: usize = 788;
 
 /// The table of contents: code (4 bytes), offset (2), length (2), four times.
 const TABLE: [u8; 32] = [
     1, 0, 0, 0, 32, 0, 36, 0, //
     2, 0, 0, 0, 68, 0, 32, 0, //
-    3, 0, 0, 0, 100, 0, 92, 2, //
-    4, 0, 0, 0, 192, 2, 60, 0,
+    3, 0, 0, 0, 100, 0, 96, 2, //
+    4, 0, 0, 0, 196, 2, 80, 0,
 ];
 
 const TOP: u32 = 524_288;
@@ -34,7 +34,7 @@ fn put8(b: &mut [u8; IMAGE], at: usize, x: u64) {
 }
 
 impl Logger {
-    /// Save: the first 764 bytes, or refusal 7 and nothing.
+    /// Save: the first 788 bytes, or refusal 7 and nothing.
     pub fn save(&self, buffer: &mut [u8]) -> Result<(), u32> {
         let Some(b) = buffer.first_chunk_mut::<IMAGE>() else {
             return Err(7);
@@ -49,29 +49,30 @@ impl Logger {
         put4(b, 88, self.whole as u32);
         put4(b, 92, self.part.clipped as u32);
         put4(b, 96, self.last.clipped as u32);
-        put4(b, 100, self.v);
-        let places = b[104..584].as_chunks_mut::<4>().0;
+        put8(b, 100, self.v);
+        let places = b[108..588].as_chunks_mut::<4>().0;
         for (place, r) in places.iter_mut().zip(self.window) {
             *place = r.to_le_bytes();
         }
-        b[584..704].copy_from_slice(&self.marks);
+        b[588..708].copy_from_slice(&self.marks);
 
-        let (phase, carried, clipped) = match self.phase {
-            Phase::Filling => (0, [0; 4], false),
-            Phase::NeverSteady => (1, [0; 4], false),
-            Phase::Steady => (2, [0; 4], false),
-            Phase::Change(c) => (3, [c.k, c.before, c.greatest, c.stand], c.clipped),
+        let (phase, c) = match self.phase {
+            Phase::Filling => (0, Change::NONE),
+            Phase::NeverSteady => (1, Change::NONE),
+            Phase::Steady => (2, Change::NONE),
+            Phase::Change(c) => (3, c),
         };
-        put4(b, 704, phase);
-        for (j, &x) in carried.iter().enumerate() {
-            put4(b, 708 + 4 * j, x);
-        }
+        put4(b, 708, phase);
+        put8(b, 712, c.k);
+        put4(b, 720, c.before);
+        put4(b, 724, c.greatest);
+        put8(b, 728, c.stand);
         for (j, x) in [self.dip, self.swell, self.interruption].iter().enumerate() {
-            put4(b, 724 + 8 * j, x.start);
-            put4(b, 728 + 8 * j, x.magnitude);
-            put4(b, 748 + 4 * j, x.clipped as u32);
+            put8(b, 736 + 12 * j, x.start);
+            put4(b, 744 + 12 * j, x.magnitude);
+            put4(b, 772 + 4 * j, x.clipped as u32);
         }
-        put4(b, 760, clipped as u32);
+        put4(b, 784, c.clipped as u32);
         Ok(())
     }
 
@@ -106,9 +107,10 @@ impl Logger {
         let whole = get4(b, 88);
         let clipped = get4(b, 92);
         let last_clipped = get4(b, 96);
-        let v = get4(b, 100);
+        let v = get8(b, 100);
         let there = whole == 1 || (whole == 0 && last == 0 && v == 0);
-        if count as usize >= limits.m
+        if v > END
+            || count as usize >= limits.m
             || sum > (count as u64) << 30
             || last > (limits.m as u64) << 30
             || !there
@@ -119,15 +121,15 @@ impl Logger {
         }
 
         // The values.
-        let used = n.min(v as usize);
+        let used = v.min(n as u64) as usize;
         let mut window = [0u32; PLACES];
-        for (r, place) in window.iter_mut().zip(b[104..584].as_chunks::<4>().0) {
+        for (r, place) in window.iter_mut().zip(b[108..588].as_chunks::<4>().0) {
             *r = u32::from_le_bytes(*place);
         }
         let over = window[..used].iter().fold(false, |over, &r| over | (r > TOP));
         let stray = window[used..].iter().fold(0, |all, &r| all | r);
         let mut marks = [0u8; PLACES];
-        marks.copy_from_slice(&b[584..704]);
+        marks.copy_from_slice(&b[588..708]);
         let any = marks[..used].iter().fold(0, |all, &x| all | x);
         let stray_mark = marks[used..].iter().fold(0, |all, &x| all | x);
         if over || stray != 0 || any > 1 || stray_mark != 0 {
@@ -135,16 +137,16 @@ impl Logger {
         }
 
         // The phase.
-        let code = get4(b, 704);
-        let mark = get4(b, 760);
+        let code = get4(b, 708);
+        let mark = get4(b, 784);
         let c = Change {
-            k: get4(b, 708),
-            before: get4(b, 712),
-            greatest: get4(b, 716),
-            stand: get4(b, 720),
+            k: get8(b, 712),
+            before: get4(b, 720),
+            greatest: get4(b, 724),
+            stand: get8(b, 728),
             clipped: mark == 1,
         };
-        if (code == 0) != ((v as usize) < n) {
+        if (code == 0) != (used < n) {
             return None;
         }
         let phase = match code {
@@ -156,8 +158,9 @@ impl Logger {
         };
         let carried = if code == 3 {
             let far = n as u32 * TOP;
-            let early = (v as u64) < c.k as u64 + n as u64;
-            n as u32 + 1 <= c.k
+            // A k above V is early here, and refused below.
+            let early = v.saturating_sub(c.k) < n as u64;
+            (n as u64) < c.k
                 && c.k <= v
                 && c.before <= far
                 && c.greatest <= far
@@ -165,19 +168,19 @@ impl Logger {
                 && mark <= !early as u32
                 && (c.stand == 0 || (c.k <= c.stand && c.stand <= v))
         } else {
-            c.k | c.before | c.greatest | c.stand | mark == 0
+            c.k | c.stand == 0 && c.before | c.greatest | mark == 0
         };
 
         // The standing events.
         let event = |at: usize, mark: usize| -> Option<Event> {
-            let (start, magnitude, mark) = (get4(b, at), get4(b, at + 4), get4(b, mark));
+            let (start, magnitude, mark) = (get8(b, at), get4(b, at + 8), get4(b, mark));
             let holds = start <= v
                 && magnitude <= TOP
                 && (start > 0 || magnitude == 0)
                 && mark <= (start > 0) as u32;
             holds.then_some(Event { start, magnitude, clipped: mark == 1 })
         };
-        let (dip, swell, interruption) = (event(724, 748)?, event(732, 752)?, event(740, 756)?);
+        let (dip, swell, interruption) = (event(736, 772)?, event(748, 776)?, event(760, 780)?);
         if !carried {
             return None;
         }

@@ -6,11 +6,15 @@
 //! - the logger (`logger`, `limits`, `room`, `squares`, `image`, `host`): small state, half-cycle by
 //!   half-cycle.
 //!
-//! And the same for three phases (`three`). The count of a day is read twice (`days`, `day_seen`).
+//! And the same for three phases (`three`). The count of a day is read twice (`days`, `day_seen`), and so
+//! is the converter (`convert`, `convert_seen`) from and to the earlier edition (`earlier`).
 
 pub mod engineer;
 pub mod readings;
 pub mod rules;
+
+pub mod earlier;
+pub mod editions;
 
 pub mod stepper;
 
@@ -27,6 +31,8 @@ pub mod three;
 
 pub mod days;
 
+pub mod convert;
+
 #[cfg(feature = "proved")]
 pub mod ffi;
 
@@ -36,14 +42,20 @@ pub mod by_logger;
 pub mod call_lists;
 pub mod cases;
 pub mod clips;
+pub mod convert_cases;
+pub mod convert_hosts;
+pub mod convert_seen;
 pub mod day_cases;
 pub mod day_hosts;
 pub mod day_seen;
+pub mod entries;
+pub mod far;
 pub mod guard;
 pub mod hosts;
 pub mod images;
 pub mod lists;
 pub mod marks;
+pub mod moved;
 pub mod pairs;
 pub mod programs;
 pub mod rng;

@@ -7,7 +7,7 @@ use crate::hosts::{demand, first_difference, Lengths, Outcome, Run};
 use crate::images::Fields;
 use crate::logger::Logger;
 use crate::rng::{one_of, Rng};
-use crate::rules::{self, settings_bytes, Settings, IMAGE};
+use crate::rules::{self, settings_bytes, Settings, IMAGE, RECORD};
 use crate::{clips, waves};
 
 /// What a list of calls has left so far.
@@ -44,7 +44,7 @@ impl Run<'_> {
                 })
             } else {
                 // A value has four records at most.
-                let room = 80 * (source.len() / s.m as usize + 1);
+                let room = 4 * RECORD * (source.len() / s.m as usize + 1);
                 Call::Feed { block: source.clone(), room }
             };
             let call = match call {
@@ -178,7 +178,7 @@ impl Run<'_> {
 }
 
 /// Settings and samples for a list: most often any, sometimes such that marks come often, or all.
-fn recording(rng: &mut Rng) -> (Settings, Vec<i16>) {
+pub fn recording(rng: &mut Rng) -> (Settings, Vec<i16>) {
     let s = match rng.range(0, 99) {
         0..=3 => return clips::every_mark(rng),
         4..=23 => clips::settings(rng),
@@ -219,7 +219,7 @@ pub fn next_call(
         }
         60..=69 => Call::Look,
         70..=84 => {
-            let lengths = [0, 1, 620, IMAGE - 1, IMAGE, IMAGE, IMAGE, IMAGE, IMAGE + 1, 900];
+            let lengths = [0, 1, 764, IMAGE - 1, IMAGE, IMAGE, IMAGE, IMAGE, IMAGE + 1, 900];
             Call::Save { length: one_of(&lengths, rng) }
         }
         85..=92 if saves > 0 => Call::RestoreSave { name: rng.range(0, saves as i64 - 1) as usize },
@@ -240,14 +240,18 @@ pub fn after_trial(rng: &mut Rng, last: Option<Call>) -> Option<Call> {
 }
 
 fn some_room(rng: &mut Rng) -> usize {
-    let room = match rng.range(0, 9) {
+    match rng.range(0, 9) {
         0 => 0,
-        1 => rng.range(0, 100),
-        2 => one_of(&[19, 20, 39, 40, 59, 60, 61], rng),
-        3..=4 => 20 * rng.range(0, 3),
-        _ => 4000,
-    };
-    room as usize
+        1 => rng.range(0, 5 * RECORD as i64) as usize,
+        2..=4 => about_whole_records(rng),
+        _ => 200 * RECORD,
+    }
+}
+
+/// Room for a few records, most often for whole ones, or for one byte less or more.
+pub fn about_whole_records(rng: &mut Rng) -> usize {
+    let whole = RECORD as i64 * rng.range(0, 3);
+    one_of(&[whole, whole, whole, whole - 1, whole + 1], rng).max(0) as usize
 }
 
 fn describe(call: &Call) -> String {

@@ -9,6 +9,8 @@ use crate::squares::{root, Part, Sample};
 
 /// Most values that are kept.
 pub const PLACES: usize = 120;
+/// V's end.
+pub const END: u64 = (1 << 63) - 1;
 
 /// A value, and whether one of its samples is clipped.
 #[derive(Clone, Copy)]
@@ -24,7 +26,7 @@ impl Value {
 /// An event that stands if its start is above 0.
 #[derive(Clone, Copy)]
 pub struct Event {
-    pub start: u32,
+    pub start: u64,
     pub magnitude: u32,
     pub clipped: bool,
 }
@@ -35,7 +37,7 @@ impl Event {
     /// After value i: while it stands it keeps the least r, or the greatest, and the marks.
     pub fn with(
         self,
-        i: u32,
+        i: u64,
         x: Value,
         begins: bool,
         ends: bool,
@@ -54,21 +56,30 @@ impl Event {
     }
 
     /// The record due at value i, if that ended it.
-    pub fn record(self, kind: u32, i: u32, after: Event) -> Option<Record> {
+    pub fn record(self, kind: u32, i: u64, after: Event) -> Option<Record> {
         let ended = self.start > 0 && after.start == 0;
-        let kind = head(kind, self.clipped);
-        ended.then(|| [kind, self.start, i - self.start, self.magnitude, 0])
+        ended.then(|| Record {
+            head: head(kind, self.clipped),
+            start: self.start,
+            duration: i - self.start,
+            first: self.magnitude,
+            second: 0,
+        })
     }
 }
 
 /// What a change in progress carries. `stand` is k also for a dip or swell that stood at k − 1.
 #[derive(Clone, Copy)]
 pub struct Change {
-    pub k: u32,
+    pub k: u64,
     pub before: u32,
     pub greatest: u32,
-    pub stand: u32,
+    pub stand: u64,
     pub clipped: bool,
+}
+
+impl Change {
+    pub const NONE: Change = Change { k: 0, before: 0, greatest: 0, stand: 0, clipped: false };
 }
 
 #[derive(Clone, Copy)]
@@ -88,7 +99,7 @@ pub struct Logger {
     pub last: Part,
     pub whole: bool,
     /// V; the last values, at most N, oldest first, the rest 0; their marks alike; and their sum.
-    pub v: u32,
+    pub v: u64,
     pub window: [u32; PLACES],
     pub marks: [u8; PLACES],
     pub window_sum: u32,
@@ -155,7 +166,7 @@ impl Logger {
     /// Ends a half-cycle, or says why not and changes nothing.
     fn half(&mut self, half: Part, room: &mut Room) -> Result<(), u64> {
         if self.whole {
-            if self.v == u32::MAX {
+            if self.v == END {
                 return Err(2);
             }
             let mean = 128 * (self.last.sum + half.sum) / self.limits.m as u64;
@@ -183,7 +194,7 @@ impl Logger {
         let new_interruption = interruption.with(i, x, below, above, u32::min);
         let begins = new_dip.start == i || new_swell.start == i;
 
-        let leaving = if self.v as usize >= l.n { self.oldest() } else { Value::NONE };
+        let leaving = if self.v >= l.n as u64 { self.oldest() } else { Value::NONE };
         let sum = self.window_sum + r - leaving.r;
         let (phase, change) = self.signal(r, leaving, sum, begins);
         let due = [
@@ -207,7 +218,7 @@ impl Logger {
     /// The phase after value V + 1, r, and the record of the change that it closes. `leaving` leaves
     /// the window, whose sum is then `sum`.
     fn signal(&self, r: u32, leaving: Value, sum: u32, begins: bool) -> (Phase, Option<Record>) {
-        let n = self.limits.n as u32;
+        let n = self.limits.n as u64;
         let i = self.v + 1;
         let stand = if begins { i } else { 0 };
         let phase = match self.phase {
@@ -216,7 +227,7 @@ impl Logger {
                 // Value i − N leaves the window; it belongs to the change from k on.
                 let left = i - n;
                 if left >= c.k {
-                    c.greatest = c.greatest.max((n * leaving.r).abs_diff(c.before));
+                    c.greatest = c.greatest.max((n as u32 * leaving.r).abs_diff(c.before));
                     c.clipped |= leaving.clipped;
                 }
                 if c.stand == 0 {
@@ -224,8 +235,13 @@ impl Logger {
                 }
                 if left > c.k && self.calm(r, sum, self.limits.calm_back) {
                     let shown = c.stand == 0 || c.stand > left;
-                    let kind = head(4, c.clipped);
-                    let record = [kind, c.k, left - c.k, c.greatest, sum.abs_diff(c.before)];
+                    let record = Record {
+                        head: head(4, c.clipped),
+                        start: c.k,
+                        duration: left - c.k,
+                        first: c.greatest,
+                        second: sum.abs_diff(c.before),
+                    };
                     return (Phase::Steady, shown.then_some(record));
                 }
                 Phase::Change(c)
@@ -251,7 +267,7 @@ impl Logger {
         }
         let lowest = sum.saturating_sub(far).div_ceil(n as u32);
         let highest = (sum + far) / n as u32;
-        let first = if self.v as usize >= n { 1 } else { 0 };
+        let first = if self.v >= n as u64 { 1 } else { 0 };
         let others = &self.window[first..][..n - 1];
         others.iter().fold(true, |calm, &x| calm & (lowest <= x) & (x <= highest))
     }
@@ -264,8 +280,8 @@ impl Logger {
     /// A value joins the window.
     fn push(&mut self, x: Value) {
         let n = self.limits.n;
-        let mut place = self.v as usize;
-        if place >= n {
+        let mut place = self.used();
+        if place == n {
             self.window.copy_within(1..n, 0);
             self.marks.copy_within(1..n, 0);
             place = n - 1;
@@ -274,18 +290,23 @@ impl Logger {
         self.marks[place] = x.clipped as u8;
     }
 
+    /// How many values are kept.
+    fn used(&self) -> usize {
+        self.v.min(self.limits.n as u64) as usize
+    }
+
     /// r(V), or 0.
     fn newest(&self) -> u32 {
-        match self.limits.n.min(self.v as usize) {
+        match self.used() {
             0 => 0,
             used => self.window[used - 1],
         }
     }
 
     pub fn look(&self) -> Looked {
-        let full = self.v as usize >= self.limits.n;
+        let full = self.used() == self.limits.n;
         Looked {
-            v: self.v as u64,
+            v: self.v,
             r: self.newest() as u64,
             a: if full { self.window_sum as u64 } else { 0 },
             phase: match self.phase {

@@ -61,10 +61,10 @@ impl Marks {
     /// The image of a recording.
     pub fn image(&mut self, x: &Fields) {
         let n = x.s.n as usize;
-        let used = n.min(x.v as usize);
+        let used = x.used();
         let places = &x.place_marks[..used];
         let [dip, swell, interruption, change] = x.event_marks;
-        let settled = x.phase == 3 && x.v as i64 >= x.change[0] as i64 + x.s.n;
+        let settled = x.settled();
         let mut see = |which: usize, used: bool, mark: bool| {
             self.images[which][mark as usize] += used as u64;
         };
@@ -81,8 +81,8 @@ impl Marks {
         self.all += (x.half_marks == [1, 1] && every_value && every_event && change == 1) as u64;
         if x.phase == 3 && change == 0 {
             // The kept values from k on.
-            let since = (x.v - x.change[0]) as usize + 1;
-            let clipped = x.place_marks[n - since.min(n)..n].contains(&1);
+            let since = (x.v - x.change[0] + 1).min(n as u64) as usize;
+            let clipped = x.place_marks[n - since..n].contains(&1);
             self.early_change += (clipped && !settled) as u64;
             self.later_in_change += (clipped && settled) as u64;
         }

@@ -4,7 +4,7 @@
 use crate::engineer::{Engineer, Looked};
 use crate::logger::Logger;
 use crate::rng::Rng;
-use crate::rules::{four, settings_bytes, Q, RECORD};
+use crate::rules::{eight, four, settings_bytes, Q, RECORD};
 use crate::waves;
 
 const KINDS: [&str; 4] = ["dip", "swell", "interruption", "rvc"];
@@ -21,8 +21,10 @@ impl Text {
     pub fn of(program: &str, records: &[u8], v: u64, phase: u64, stand: [bool; 3]) -> Text {
         let mut printed = String::from("kind start halves first second\n");
         for x in records.chunks_exact(RECORD) {
-            let columns = [4, 8, 12, 16].map(|at| four(x, at).to_string()).join(" ");
-            printed += &format!("{} {columns}\n", KINDS[x[0] as usize - 1]);
+            let (start, duration) = (eight(x, 4), eight(x, 12));
+            let (first, second) = (four(x, 20), four(x, 24));
+            let kind = KINDS[x[0] as usize - 1];
+            printed += &format!("{kind} {start} {duration} {first} {second}\n");
         }
         printed += &format!("values {v}\n");
         let [dip, swell, interruption] = stand;

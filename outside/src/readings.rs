@@ -2,7 +2,8 @@
 //! clipped, standing events, the steady signal, records with their due values, the image. Nothing is
 //! kept between readings.
 
-use crate::rules::{settings_bytes, table, Settings, IMAGE, TOP};
+use crate::editions::{Edition, THIS};
+use crate::rules::{settings_bytes, Settings, TOP};
 
 /// A record and the value at which it is due.
 #[derive(Clone, Copy, Debug, PartialEq, Eq)]
@@ -27,12 +28,19 @@ impl Record {
         }
     }
 
-    /// The 20 bytes.
+    /// The 28 bytes.
     pub fn bytes(&self) -> Vec<u8> {
+        self.bytes_in(&THIS)
+    }
+
+    /// The bytes in an edition.
+    pub fn bytes_in(&self, edition: &Edition) -> Vec<u8> {
         let mut b = vec![self.kind as u8, self.clipped as u8, 0, 0];
-        for x in [self.start, self.duration, self.first, self.second] {
-            b.extend((x as u32).to_le_bytes());
-        }
+        put(&mut b, edition.count, self.start);
+        put(&mut b, edition.count, self.duration);
+        put(&mut b, 4, self.first);
+        put(&mut b, 4, self.second);
+        assert_eq!(b.len(), edition.record);
         b
     }
 }
@@ -265,12 +273,17 @@ impl<'a> Readings<'a> {
 
     /// The image.
     pub fn image(&self) -> Vec<u8> {
-        let mut b = table();
+        self.image_in(&THIS)
+    }
+
+    /// The image in an edition.
+    pub fn image_in(&self, edition: &Edition) -> Vec<u8> {
+        let mut b = (edition.table)();
         b.extend(settings_bytes(&self.s));
         self.gatherer_body(&mut b);
-        self.values_body(&mut b);
-        self.events_body(&mut b);
-        assert_eq!(b.len(), IMAGE);
+        self.values_body(edition.count, &mut b);
+        self.events_body(edition.count, &mut b);
+        assert_eq!(b.len(), edition.image);
         b
     }
 
@@ -279,21 +292,22 @@ impl<'a> Readings<'a> {
         let whole = self.recording.len() / m;
         let in_progress = &self.recording[whole * m..];
         let last = if whole > 0 { &self.recording[(whole - 1) * m..whole * m] } else { &[] };
-        put4(b, in_progress.len() as i64);
-        b.extend((energy(in_progress) as u64).to_le_bytes());
-        b.extend((energy(last) as u64).to_le_bytes());
-        put4(b, (whole > 0) as i64);
-        put4(b, has_clipped(in_progress) as i64);
-        put4(b, has_clipped(last) as i64);
+        put(b, 4, in_progress.len() as i64);
+        put(b, 8, energy(in_progress));
+        put(b, 8, energy(last));
+        put(b, 4, (whole > 0) as i64);
+        put(b, 4, has_clipped(in_progress) as i64);
+        put(b, 4, has_clipped(last) as i64);
     }
 
-    fn values_body(&self, b: &mut Vec<u8>) {
+    /// With so many bytes for a number that counts values, as in the next body.
+    fn values_body(&self, count: usize, b: &mut Vec<u8>) {
         let v = self.v();
         let used = v.min(self.s.n);
         let unused = (120 - used) as usize;
-        put4(b, v);
+        put(b, count, v);
         for j in v - used + 1..=v {
-            put4(b, self.r(j));
+            put(b, 4, self.r(j));
         }
         b.extend(vec![0; 4 * unused]);
         for j in v - used + 1..=v {
@@ -302,36 +316,41 @@ impl<'a> Readings<'a> {
         b.extend(vec![0; unused]);
     }
 
-    fn events_body(&self, b: &mut Vec<u8>) {
+    fn events_body(&self, count: usize, b: &mut Vec<u8>) {
         let v = self.v();
         // The last value that has left the window.
         let left = v - self.s.n;
         let events = [(1, &self.dip), (2, &self.swell), (3, &self.interruption)];
         let events = events.map(|(kind, stands)| (kind, self.standing_since(stands)));
 
-        put4(b, self.phase());
-        if let Some(k) = self.change_since() {
-            put4(b, k);
-            put4(b, self.a(k - 1));
-            put4(b, self.greatest_difference(k, left));
+        put(b, 4, self.phase());
+        let (k, before, greatest, stand) = match self.change_since() {
+            None => (0, 0, 0, 0),
             // One that stood at k − 1 is held as k, also where another first stands later.
-            put4(b, if self.dip_or_swell_stands(k - 1) { k } else { self.first_stand(k) });
-        } else {
-            b.extend([0; 16]);
-        }
+            Some(k) => {
+                let stood = self.dip_or_swell_stands(k - 1);
+                let stand = if stood { k } else { self.first_stand(k) };
+                (k, self.a(k - 1), self.greatest_difference(k, left), stand)
+            }
+        };
+        put(b, count, k);
+        put(b, 4, before);
+        put(b, 4, greatest);
+        put(b, count, stand);
         for (kind, start) in events {
-            put4(b, start);
-            put4(b, if start > 0 { self.magnitude(kind, start, v) } else { 0 });
+            put(b, count, start);
+            put(b, 4, if start > 0 { self.magnitude(kind, start, v) } else { 0 });
         }
         for (_, start) in events {
-            put4(b, (start > 0 && self.any_clipped(start, v)) as i64);
+            put(b, 4, (start > 0 && self.any_clipped(start, v)) as i64);
         }
-        put4(b, self.change_since().is_some_and(|k| self.any_clipped(k, left)) as i64);
+        put(b, 4, self.change_since().is_some_and(|k| self.any_clipped(k, left)) as i64);
     }
 }
 
-fn put4(b: &mut Vec<u8>, x: i64) {
-    b.extend((x as u32).to_le_bytes());
+/// Puts a number behind the bytes, in so many.
+fn put(b: &mut Vec<u8>, width: usize, x: i64) {
+    b.extend(&x.to_le_bytes()[..width]);
 }
 
 /// Whether a sample is clipped: it stands at one of the converter's two ends.

@@ -25,8 +25,14 @@ impl Rng {
 
     /// From low to high, both possible.
     pub fn range(&mut self, low: i64, high: i64) -> i64 {
-        debug_assert!(low <= high);
-        low + (self.next() as u128 * (high - low + 1) as u128 >> 64) as i64
+        assert!(low <= high);
+        // The span may not fit, though both ends do.
+        low.wrapping_add(self.up_to(high.wrapping_sub(low) as u64) as i64)
+    }
+
+    /// From 0 to high, both possible.
+    pub fn up_to(&mut self, high: u64) -> u64 {
+        (self.next() as u128 * (high as u128 + 1) >> 64) as u64
     }
 
     /// True in `percent` of a hundred.

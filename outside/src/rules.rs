@@ -3,11 +3,11 @@
 /// Highest value that a half-cycle pair can give, in sixteenths of a count.
 pub const TOP: i64 = 524_288;
 /// Bytes in an image.
-pub const IMAGE: usize = 764;
+pub const IMAGE: usize = 788;
 /// Bytes in a record.
-pub const RECORD: usize = 20;
+pub const RECORD: usize = 28;
 /// V's end.
-pub const END: i64 = 4_294_967_295;
+pub const END: i128 = 9_223_372_036_854_775_807;
 
 /// The nine settings, and N.
 #[derive(Clone, Copy, Debug, PartialEq, Eq)]
@@ -76,7 +76,7 @@ pub fn settings_bytes(s: &Settings) -> Vec<u8> {
 /// The table of contents, 32 bytes.
 pub fn table() -> Vec<u8> {
     let mut bytes = Vec::new();
-    for (code, offset, length) in [(1u32, 32u16, 36u16), (2, 68, 32), (3, 100, 604), (4, 704, 60)] {
+    for (code, offset, length) in [(1u32, 32u16, 36u16), (2, 68, 32), (3, 100, 608), (4, 708, 80)] {
         bytes.extend(code.to_le_bytes());
         bytes.extend(offset.to_le_bytes());
         bytes.extend(length.to_le_bytes());
@@ -114,7 +114,7 @@ fn bodies_hold(s: &Settings, bytes: &[u8]) -> bool {
     let sum = eight(bytes, 72);
     let last = eight(bytes, 80);
     let whole = four(bytes, 88);
-    let v = four(bytes, 100);
+    let v = eight(bytes, 100);
     let gatherer = count < s.m
         && sum <= (count as i128) << 30
         && last <= (s.m as i128) << 30
@@ -123,42 +123,44 @@ fn bodies_hold(s: &Settings, bytes: &[u8]) -> bool {
         && mark_holds(four(bytes, 96), whole == 1);
 
     // Body 3.
-    let used = v.min(s.n);
+    let n = s.n as i128;
+    let used = v.min(n);
     let places = (0..120).all(|j| {
-        let r = four(bytes, 104 + 4 * j as usize);
-        let mark = bytes[584 + j as usize] as i64;
-        r <= TOP && (j < used || r == 0) && mark_holds(mark, j < used)
+        let r = four(bytes, 108 + 4 * j);
+        let mark = bytes[588 + j] as i64;
+        let in_use = (j as i128) < used;
+        r <= TOP && (in_use || r == 0) && mark_holds(mark, in_use)
     });
 
     // Body 4, the phase.
-    let phase = four(bytes, 704);
-    let k = four(bytes, 708);
-    let before = four(bytes, 712);
-    let greatest = four(bytes, 716);
-    let stand = four(bytes, 720);
-    let phase_in_range = (0..=3).contains(&phase) && (phase == 0) == (v < s.n);
+    let phase = four(bytes, 708);
+    let k = eight(bytes, 712);
+    let before = four(bytes, 720);
+    let greatest = four(bytes, 724);
+    let stand = eight(bytes, 728);
+    let phase_in_range = (0..=3).contains(&phase) && (phase == 0) == (v < n);
     let change = if phase == 3 {
-        s.n < k
+        n < k
             && k <= v
             && before <= s.n * TOP
             && greatest <= s.n * TOP
-            && (v >= k + s.n || greatest == 0)
+            && (v >= k + n || greatest == 0)
             && (stand == 0 || (k <= stand && stand <= v))
     } else {
         k == 0 && before == 0 && greatest == 0 && stand == 0
     };
-    let change_mark = mark_holds(four(bytes, 760), phase == 3 && v >= k + s.n);
+    let change_mark = mark_holds(four(bytes, 784), phase == 3 && v >= k + n);
 
     // Body 4, the standing events.
     let events = (0..3).all(|e| {
-        let start = four(bytes, 724 + 8 * e);
-        let magnitude = four(bytes, 728 + 8 * e);
-        let mark = four(bytes, 748 + 4 * e);
+        let start = eight(bytes, 736 + 12 * e);
+        let magnitude = four(bytes, 744 + 12 * e);
+        let mark = four(bytes, 772 + 4 * e);
         start <= v
             && magnitude <= TOP
             && (start != 0 || magnitude == 0)
             && mark_holds(mark, start != 0)
     });
 
-    gatherer && places && phase_in_range && change && change_mark && events
+    v <= END && gatherer && places && phase_in_range && change && change_mark && events
 }

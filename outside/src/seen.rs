@@ -1,6 +1,9 @@
 //! Counts of what the random cases have seen.
 
+use crate::convert_seen::ConvertSeen;
 use crate::day_seen::DaySeen;
+use crate::editions::THIS;
+use crate::far::Far;
 use crate::marks::Marks;
 use crate::pairs::{pairs, rules};
 use crate::room::RECORD;
@@ -11,13 +14,24 @@ use crate::trials::{InLists, OnImages};
 use std::collections::BTreeMap;
 
 /// Names of the calls that are counted.
-pub const CALLS: [&str; 10] =
-    ["start", "feed", "trial", "look", "save", "restore", "begin", "advance", "try", "count_day"];
+pub const CALLS: [&str; 11] = [
+    "start",
+    "feed",
+    "trial",
+    "look",
+    "save",
+    "restore",
+    "begin",
+    "advance",
+    "try",
+    "count_day",
+    "convert",
+];
 
 /// What has been seen.
 #[derive(Default)]
 pub struct Seen {
-    pub calls: [u64; 10],
+    pub calls: [u64; 11],
     /// What advance has told and written.
     pub fed: Told,
     /// What trials have shown, in lists and on images.
@@ -35,6 +49,8 @@ pub struct Seen {
     pub built: u64,
     /// What events that stand before a change have shown.
     pub stands: Stands,
+    /// What feeds about the end of 4 bytes and at V's end have shown.
+    pub far: Far,
     /// Recordings read as the event program does, and those that a program was run on.
     pub texts: u64,
     pub programs: u64,
@@ -42,6 +58,8 @@ pub struct Seen {
     pub not_ended: [u64; 5],
     /// What the counts of a day have shown.
     pub days: DaySeen,
+    /// What the converter's calls have shown.
+    pub converts: ConvertSeen,
     /// What recordings of three phases have shown.
     pub three: three::seen::Seen,
 }
@@ -112,13 +130,16 @@ impl Seen {
         for (name, count) in self.stands.counts() {
             add(name, count);
         }
+        for (name, count) in self.far.counts() {
+            add(name, count);
+        }
         for number in 1..=7 {
             add(format!("begin refuses {number}"), self.begin_refusals[number]);
         }
         for number in 7..=13 {
             add(format!("advance refuses {number}"), self.advance_refusals[number]);
         }
-        for rule in rules(&pairs(Q)) {
+        for rule in rules(&pairs(&THIS, Q)) {
             let [broken, accepted] = self.rules.get(rule).copied().unwrap_or_default();
             add(format!("11 by {rule}"), broken);
             add(format!("accepted by {rule}"), accepted);
@@ -129,6 +150,7 @@ impl Seen {
         }
         list.extend(self.marks.counts());
         list.extend(self.days.counts());
+        list.extend(self.converts.counts());
         list.extend(self.three.counts());
         list
     }
@@ -137,7 +159,7 @@ impl Seen {
 /// Prints every count, and those that are 0 again; tells whether there are none.
 pub fn tell(counts: &[(String, u64)]) -> bool {
     for (name, count) in counts {
-        println!("{name:<60}{count:>12}");
+        println!("{name:<72}{count:>12}");
     }
     let missing: Vec<&str> = counts.iter().filter(|x| x.1 == 0).map(|x| x.0.as_str()).collect();
     if !missing.is_empty() {

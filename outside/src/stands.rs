@@ -3,7 +3,7 @@
 use crate::images::Fields;
 use crate::readings::Readings;
 use crate::room::RECORD;
-use crate::rules::four;
+use crate::rules::eight;
 use crate::seen::KINDS;
 
 /// What a kind of event, dips or swells, has shown about the first value of changes.
@@ -50,9 +50,9 @@ pub struct Stands {
     /// those of them in which another first stands later.
     held: u64,
     held_with_another: u64,
-    /// Changes recorded from accepted images: of the edition before, with 0 though one stood at k − 1;
+    /// Changes recorded from accepted images: of versions 2.0 and 2.1, with 0 though one stood at k − 1;
     /// and in which only an interruption stood at k − 1.
-    edition_before: u64,
+    version_before: u64,
     interrupted: u64,
 }
 
@@ -76,24 +76,24 @@ impl Stands {
 
     /// The image of a recording.
     pub fn image(&mut self, x: &Readings, image: &Fields) {
-        let [k, _, _, fourth] = image.change.map(i64::from);
+        let [k, _, _, fourth] = image.change.map(|x| x as i64);
         if image.phase == 3 && fourth == k && !x.dip_or_swell_begins(k) {
             self.held += 1;
             self.held_with_another += (x.first_stand(k) > 0) as u64;
         }
     }
 
-    /// The records written from an image that the edition before saved in a change.
-    pub fn edition_before(&mut self, image: &Fields, records: &[u8]) {
-        let [k, _, _, fourth] = image.change.map(i64::from);
-        self.edition_before += (fourth == 0 && change(records, k).is_some()) as u64;
+    /// The records written from an image that versions 2.0 and 2.1 saved in a change.
+    pub fn version_before(&mut self, image: &Fields, records: &[u8]) {
+        let [k, _, _, fourth] = image.change;
+        self.version_before += (fourth == 0 && change(records, k).is_some()) as u64;
     }
 
     /// The records written from any accepted image.
     pub fn accepted(&mut self, image: &Fields, records: &[u8]) {
         let [dip, _, swell, _, interruption, _] = image.events;
         let alone = dip == 0 && swell == 0 && interruption > 0;
-        let next = image.v as i64 + 1;
+        let next = image.v + 1;
         let begun = image.phase == 2 && change(records, next).is_some();
         self.interrupted += (alone && begun) as u64;
     }
@@ -113,8 +113,8 @@ impl Stands {
     pub fn counts(&self) -> Vec<(String, u64)> {
         let mut list = self.recording_counts();
         list.push((
-            "change recorded from an image of the edition before".into(),
-            self.edition_before,
+            "change recorded from an image of version 2.0 or 2.1".into(),
+            self.version_before,
         ));
         list.push(("change kept, only an interruption at k - 1".into(), self.interrupted));
         list
@@ -122,6 +122,6 @@ impl Stands {
 }
 
 /// The record of a change from k, if there is one.
-pub fn change(records: &[u8], k: i64) -> Option<&[u8]> {
-    records.chunks_exact(RECORD).find(|x| x[0] == 4 && four(x, 4) == k)
+pub fn change(records: &[u8], k: u64) -> Option<&[u8]> {
+    records.chunks_exact(RECORD).find(|x| x[0] == 4 && eight(x, 4) == k as i128)
 }

@@ -45,7 +45,7 @@ const TRIALS: &[(&str, OfTrial)] = &[
     ("while an interruption stands", |x| x.image.events[4] > 0),
     ("in a change", |x| x.image.phase == 3),
     ("with no byte, a record due", |x| x.room == 0 && x.fed.why == 1),
-    ("with 1 to 19 bytes, a record due", |x| (1..RECORD).contains(&x.room) && x.fed.why == 1),
+    ("with 1 to 27 bytes, a record due", |x| (1..RECORD).contains(&x.room) && x.fed.why == 1),
     ("with room for one record, written", |x| x.room / RECORD == 1 && x.fed.written == 1),
     ("with bytes behind the last record", |x| x.fed.written > 0 && x.behind() > 0),
     ("with room for some of a value's records", |x| x.fed.why == 1 && x.behind() >= RECORD),

@@ -8,13 +8,14 @@ use common::{bytes, feed, numbers, refuses_settings, Q};
 use outside::engineer::{Engineer, Fed, Looked};
 use outside::hosts::hosts;
 use outside::images::Fields;
-use outside::rules::{self, IMAGE};
+use outside::logger::END;
+use outside::rules::{self, IMAGE, RECORD};
 use outside::{program, waves};
 
 /// Feeds all samples; gives what is told, the records, and a look.
-fn run(settings: [u32; 9], samples: &[i16], room: usize) -> (Fed, Vec<[u32; 5]>, Looked) {
+fn run(settings: [u32; 9], samples: &[i16], room: usize) -> (Fed, Vec<[u64; 5]>, Looked) {
     let left = feed(settings, samples, room);
-    let list = left.records.chunks_exact(20).map(numbers).collect();
+    let list = left.records.chunks_exact(RECORD).map(numbers).collect();
     (left.fed, list, left.looked)
 }
 
@@ -103,7 +104,7 @@ fn the_same_at_other_limits() {
 }
 
 /// The records of all these half-cycles, under Q.
-fn records(list: &[(usize, i16)]) -> Vec<[u32; 5]> {
+fn records(list: &[(usize, i16)]) -> Vec<[u64; 5]> {
     run(Q, &halves(list), 2000).1
 }
 
@@ -114,14 +115,14 @@ fn image(list: &[(usize, i16)]) -> Fields {
 
 /// The image that every host leaves after these half-cycles, from this one, and the records that it
 /// writes.
-fn go_on(from: &Fields, list: &[(usize, i16)]) -> (Fields, Vec<[u32; 5]>) {
+fn go_on(from: &Fields, list: &[(usize, i16)]) -> (Fields, Vec<[u64; 5]>) {
     let given = from.bytes();
     assert_eq!(rules::restore(&given), 0);
     let left = hosts().into_iter().map(|host| {
-        let (mut new, mut records, mut reply) = ([0; IMAGE], [0; 200], [0; 24]);
+        let (mut new, mut records, mut reply) = ([0; IMAGE], [0; 10 * RECORD], [0; 24]);
         let samples = waves::bytes(&halves(list));
         assert_eq!((host.advance)(&given, &samples, &mut new, &mut records, &mut reply), 0);
-        let written = records[..20 * reply[8] as usize].chunks_exact(20);
+        let written = records[..RECORD * reply[8] as usize].chunks_exact(RECORD);
         (host.name, new, written.map(numbers).collect::<Vec<_>>())
     });
     let left: Vec<_> = left.collect();
@@ -194,9 +195,9 @@ fn the_fourth_number_stays() {
     assert_eq!((x.change, x.events[2]), ([130, 147_200, 0, 132], 132));
 }
 
-/// An image of the edition before goes on with its 0.
+/// An image of version 2.0 or 2.1 goes on with its 0.
 #[test]
-fn an_image_of_the_edition_before() {
+fn an_image_of_version_2_1() {
     let x = image(&[(130, 88), (2, 100)]).but(|x| x.change[3] = 0);
     let (after, records) = go_on(&x, &[(1, 100)]);
     assert_eq!((after.change, records.len()), ([130, 140_800, 0, 0], 0));
@@ -226,7 +227,7 @@ fn events_of_an_accepted_image_before_a_change() {
     for e in 0..3 {
         let mut x = x.clone();
         (x.events[2 * e], x.events[2 * e + 1]) = (140, 50);
-        let event = [e as u32 + 1, 140, 11, 50, 0];
+        let event = [e as u64 + 1, 140, 11, 50, 0];
         let (after, list) = go_on(&x, &[(2, 93)]);
         assert_eq!(list, [event]);
         assert_eq!(after.change, [151, 160_000, 0, if e < 2 { 151 } else { 0 }]);
@@ -243,9 +244,9 @@ fn program_samples() -> Vec<i16> {
 fn the_program_without_record_room() {
     let (fed, _, _) = run(Q, &program_samples(), 0);
     assert_eq!(fed, Fed { taken: 55, written: 0, why: 1 });
-    let (fed, _, _) = run(Q, &program_samples(), 19);
+    let (fed, _, _) = run(Q, &program_samples(), RECORD - 1);
     assert_eq!(fed, Fed { taken: 55, written: 0, why: 1 });
-    let (fed, records, _) = run(Q, &program_samples(), 20);
+    let (fed, records, _) = run(Q, &program_samples(), RECORD);
     assert_eq!(fed, Fed { taken: 64, written: 1, why: 0 });
     assert_eq!(records, [[1, 3, 3, 800, 0]]);
 }
@@ -275,7 +276,7 @@ fn the_end_of_v() {
         let advance = host.advance;
         let mut x = Fields::fresh(rules::settings(&bytes(Q)).unwrap());
         x.whole = 1;
-        x.v = u32::MAX - 1;
+        x.v = END - 1;
         x.phase = 2;
         x.places[..100].fill(1600);
         x.last = 80_000;
@@ -284,7 +285,7 @@ fn the_end_of_v() {
         assert_eq!(advance(&x.bytes(), &samples, &mut image, &mut [], &mut reply), 0);
         assert_eq!([reply[0], reply[8], reply[16]], [15, 0, 2]);
         let y = Fields::of(&image);
-        assert_eq!((y.v, y.count, y.sum), (u32::MAX, 7, 70_000));
+        assert_eq!((y.v, y.count, y.sum), (END, 7, 70_000));
         // One more sample cannot be taken; none is taken wholly.
         let old = image;
         assert_eq!(advance(&old, &samples[..2], &mut image, &mut [], &mut reply), 0);
@@ -293,6 +294,43 @@ fn the_end_of_v() {
         assert_eq!([reply[0], reply[8], reply[16]], [0, 0, 0]);
         assert_eq!(old, image);
     }
+}
+
+/// Steady at 1600 with this V.
+fn steady(v: u64) -> Fields {
+    let x = Fields::fresh(rules::settings(&bytes(Q)).unwrap()).with_v(v);
+    x.but(|x| (x.whole, x.last, x.phase) = (1, 80_000, 2))
+}
+
+/// V passes 2^32 − 1 while a dip stands, and in a change.
+#[test]
+fn beyond_four_bytes() {
+    for v in [(1 << 32) - 5, (1 << 32) - 3, (1 << 32) - 2, (1 << 32) - 1, 1 << 32, 1 << 62] {
+        let (after, list) = go_on(&steady(v), &[(2, 50), (3, 100)]);
+        assert_eq!((after.v, list), (v + 5, vec![[1, v + 1, 3, 800, 0]]));
+    }
+    for v in [(1 << 32) - 200, (1 << 32) - 103, (1 << 32) - 50, (1 << 32) - 2, 1 << 32] {
+        let (after, list) = go_on(&steady(v), &[(50, 96)]);
+        assert_eq!((after.phase, after.change), (3, [v + 2, 159_968, 0, 0]));
+        assert_eq!(list, [[0; 5]; 0]);
+        let (after, list) = go_on(&steady(v), &[(104, 96)]);
+        assert_eq!((after.v, after.phase), (v + 104, 2));
+        assert_eq!(list, [[4, v + 2, 1, 6368, 6368]]);
+    }
+    // A dip since value 1.
+    let x = steady(1 << 32).but(|x| (x.events[0], x.events[1]) = (1, 1400));
+    assert_eq!(go_on(&x, &[(1, 100)]).1, [[1, 1, 1 << 32, 1400, 0]]);
+}
+
+/// The change is due at V's end, or would be after it.
+#[test]
+fn a_change_at_the_end_of_v() {
+    let (after, list) = go_on(&steady(END - 103), &[(104, 96)]);
+    assert_eq!((after.v, after.phase, after.count), (END, 2, 7));
+    assert_eq!(list, [[4, END - 101, 1, 6368, 6368]]);
+    let (after, list) = go_on(&steady(END - 102), &[(104, 96)]);
+    assert_eq!((after.v, after.phase, after.change[0]), (END, 3, END - 100));
+    assert_eq!(list, [[0; 5]; 0]);
 }
 
 /// What is due does not hang on later samples: the engineer's feed, tried for each number of
@@ -305,12 +343,12 @@ fn the_greatest_number_of_samples() {
         for n in 0..=samples.len() {
             let mut engineer = Engineer::start(&bytes(Q)).unwrap();
             engineer.feed(&samples[..n], usize::MAX);
-            if engineer.due().len() <= 20 * room {
+            if engineer.due().len() <= RECORD * room {
                 greatest = n;
             }
         }
         let mut engineer = Engineer::start(&bytes(Q)).unwrap();
-        let (fed, _) = engineer.feed(&samples, 20 * room);
+        let (fed, _) = engineer.feed(&samples, RECORD * room);
         assert_eq!(fed.taken as usize, greatest);
     }
 }

@@ -3,11 +3,12 @@
 mod common;
 
 use common::{bytes, feed, numbers, Left};
+use outside::editions::THIS;
 use outside::hosts::hosts;
 use outside::images::Fields;
 use outside::logger::Logger;
 use outside::pairs::pairs;
-use outside::rules::{self, IMAGE};
+use outside::rules::{self, IMAGE, RECORD};
 use outside::waves;
 
 /// Q with U 400000, which is 25000 counts.
@@ -26,7 +27,8 @@ fn dip(first: i16) -> Left {
 
 #[test]
 fn a_clipped_dip() {
-    let record = [1, 1, 0, 0, 3, 0, 0, 0, 3, 0, 0, 0, 0x29, 0x12, 4, 0, 0, 0, 0, 0];
+    let eight = [3, 0, 0, 0, 0, 0, 0, 0];
+    let record = [&[1, 1, 0, 0][..], &eight, &eight, &[0x29, 0x12, 4, 0], &[0; 4]].concat();
     assert_eq!(dip(32_767).records, record);
     assert_eq!(numbers(&record), [257, 3, 3, 266_793, 0]);
     assert_eq!(numbers(&dip(-32_768).records), [257, 3, 3, 266_795, 0]);
@@ -44,10 +46,10 @@ fn the_marks_of_an_image() {
     let left = feed(HIGH, &samples(&parts), 2000);
     assert_eq!((left.fed.taken, left.fed.written, left.fed.why), (52, 0, 0));
     let image = left.image;
-    assert_eq!(image.len(), 764);
+    assert_eq!(image.len(), 788);
     let four = |at: usize| u32::from_le_bytes(image[at..at + 4].try_into().unwrap());
     // The table.
-    let table = [1, 36 << 16 | 32, 2, 32 << 16 | 68, 3, 604 << 16 | 100, 4, 60 << 16 | 704];
+    let table = [1, 36 << 16 | 32, 2, 32 << 16 | 68, 3, 608 << 16 | 100, 4, 80 << 16 | 708];
     assert_eq!(std::array::from_fn(|j| four(4 * j)), table);
     // The half in progress, marked, and the last half, not.
     let sum = 3 * 25_000u64.pow(2) + 32_767u64.pow(2);
@@ -56,16 +58,17 @@ fn the_marks_of_an_image() {
     assert_eq!(image[80..88], 5_000_000_000u64.to_le_bytes());
     assert_eq!([88, 92, 96].map(four), [1, 1, 0]);
     // The values.
-    assert_eq!(four(100), 5);
+    assert_eq!([100, 104].map(four), [5, 0]);
     let values = [400_000, 400_000, 349_826, 266_793, 329_848];
-    assert_eq!([104, 108, 112, 116, 120].map(four), values);
-    assert!(image[124..584].iter().all(|&x| x == 0));
-    assert_eq!(image[584..589], [0, 0, 1, 1, 0]);
-    assert!(image[589..704].iter().all(|&x| x == 0));
+    assert_eq!([108, 112, 116, 120, 124].map(four), values);
+    assert!(image[128..588].iter().all(|&x| x == 0));
+    assert_eq!(image[588..593], [0, 0, 1, 1, 0]);
+    assert!(image[593..708].iter().all(|&x| x == 0));
     // Phase 0, and the dip.
-    assert_eq!([704, 708, 712, 716, 720].map(four), [0; 5]);
-    assert_eq!([724, 728, 732, 736, 740, 744].map(four), [3, 266_793, 0, 0, 0, 0]);
-    assert_eq!([748, 752, 756, 760].map(four), [1, 0, 0, 0]);
+    assert!(image[708..736].iter().all(|&x| x == 0));
+    assert_eq!([736, 740, 744].map(four), [3, 0, 266_793]);
+    assert!(image[748..772].iter().all(|&x| x == 0));
+    assert_eq!([772, 776, 780, 784].map(four), [1, 0, 0, 0]);
 }
 
 /// Half-cycles of −32767 and seven samples of a count; −32767 has the place `at`, and is 32767 in the
@@ -83,19 +86,20 @@ fn flipped(parts: &[(usize, i16)], at: usize, clipped: usize) -> Vec<i16> {
 
 /// One clipped sample in each half-cycle in turn: it marks exactly the records that have one of its
 /// two values in their first magnitude. Value i is made of half-cycles i and i + 1.
-fn marked_exactly_within(settings: [u32; 9], parts: &[(usize, i16)], expected: &[[u32; 3]]) {
+fn marked_exactly_within(settings: [u32; 9], parts: &[(usize, i16)], expected: &[[u64; 3]]) {
     let plain = feed(settings, &flipped(parts, 0, 0), 2000).records;
-    let list: Vec<[u32; 5]> = plain.chunks_exact(20).map(numbers).collect();
-    let heads: Vec<&[u32]> = list.iter().map(|x| &x[..3]).collect();
+    let list: Vec<[u64; 5]> = plain.chunks_exact(RECORD).map(numbers).collect();
+    let heads: Vec<&[u64]> = list.iter().map(|x| &x[..3]).collect();
     assert_eq!(heads, expected);
     let count: usize = parts.iter().map(|x| x.0).sum();
     for half in 1..=count {
         for at in [0, 3, 7] {
             let mut marked = plain.clone();
-            for (record, [kind, start, duration, ..]) in marked.chunks_exact_mut(20).zip(&list) {
+            for (record, [kind, start, duration, ..]) in marked.chunks_exact_mut(RECORD).zip(&list)
+            {
                 // b - 1, or m - N.
                 let last = if *kind == 4 { start + duration } else { start + duration - 1 };
-                record[1] = (*start..=last + 1).contains(&(half as u32)) as u8;
+                record[1] = (*start..=last + 1).contains(&(half as u64)) as u8;
             }
             let left = feed(settings, &flipped(parts, at, half), 2000);
             assert_eq!(left.records, marked, "half-cycle {half}, sample {at}");
@@ -175,11 +179,11 @@ fn marks_go_on_as_held() {
     x.events = [250, 300_000, 0, 0, 260, 5];
     x.event_marks = [1, 0, 0, 1];
     for host in hosts() {
-        let (mut image, mut records, mut reply) = ([0; IMAGE], [0; 60], [0; 24]);
+        let (mut image, mut records, mut reply) = ([0; IMAGE], [0; 3 * RECORD], [0; 24]);
         let block = waves::bytes(&[25_000; 8]);
         let given = x.bytes();
         assert_eq!((host.advance)(&given, &block, &mut image, &mut records, &mut reply), 0);
-        let list: Vec<[u32; 5]> = records.chunks_exact(20).map(numbers).collect();
+        let list: Vec<[u64; 5]> = records.chunks_exact(RECORD).map(numbers).collect();
         let expected = [[257, 250, 50, 300_000, 0], [3, 260, 40, 5, 0], [260, 190, 10, 7, 0]];
         assert_eq!(list, expected, "{}", host.name);
         assert_eq!(Fields::of(&image).event_marks, [0; 4]);
@@ -190,7 +194,7 @@ fn marks_go_on_as_held() {
 #[test]
 fn every_rule_of_the_bodies() {
     for settings in [HIGH, [256, 60, 16, 50, 49, 1, 1, 2, 0]] {
-        for pair in pairs(rules::settings(&bytes(settings)).unwrap()) {
+        for pair in pairs(&THIS, rules::settings(&bytes(settings)).unwrap()) {
             for (image, number) in [(pair.broken.bytes(), 11), (pair.accepted.bytes(), 0)] {
                 assert_eq!(rules::restore(&image), number, "{}", pair.rule);
                 assert_eq!(Logger::from_image(&image).err().unwrap_or(0), number, "{}", pair.rule);

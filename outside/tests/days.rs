@@ -21,13 +21,14 @@ fn with_u(mut settings: [u32; 9], u: u32) -> [u32; 9] {
 }
 
 /// A record that lasts one half-cycle.
-fn record(kind: u8, start: u32, first: u32, second: u32) -> Vec<u8> {
-    let numbers = [start, 1, first, second].map(u32::to_le_bytes).concat();
-    [vec![kind, 0, 0, 0], numbers].concat()
+fn record(kind: u8, start: u64, first: u32, second: u32) -> Vec<u8> {
+    let counts = [start, 1].map(u64::to_le_bytes).concat();
+    let magnitudes = [first, second].map(u32::to_le_bytes).concat();
+    [vec![kind, 0, 0, 0], counts, magnitudes].concat()
 }
 
 /// A change that counts by both magnitudes.
-fn change(start: u32) -> Vec<u8> {
+fn change(start: u64) -> Vec<u8> {
     record(4, start, ENOUGH, ENOUGH)
 }
 
@@ -104,7 +105,7 @@ fn the_greatest_magnitudes() {
 }
 
 /// The start is on this day, and on neither of the days beside it.
-fn on_day(settings: [u32; 9], z: u64, start: u32, day: u64) {
+fn on_day(settings: [u32; 9], z: u64, start: u64, day: u64) {
     for asked in [day.wrapping_sub(1), day, day + 1] {
         let expected = if asked == day { [1, 1] } else { [0, 0] };
         assert_eq!(counts(settings, &change(start), z, asked), expected, "{start} on {asked}");
@@ -136,30 +137,53 @@ fn value_0_lies_z_after_midnight() {
     on_day(SIXTY, DAY, 1_728_000, 1);
 }
 
-/// z + start passes 4 bytes.
+/// z + start passes 4 bytes, and so does the start.
 #[test]
-fn the_last_start() {
-    on_day(Q, 0, u32::MAX, 497);
-    on_day(Q, DAY - 1, u32::MAX, 498);
-    on_day(Q, 1, u32::MAX, 497);
-    on_day(SIXTY, DAY_60 - 1, u32::MAX, 415);
-    assert_eq!(counts(Q, &change(u32::MAX), 1, 0), [0, 0]);
+fn beyond_four_bytes() {
+    let last = u32::MAX as u64;
+    on_day(Q, 0, last, 497);
+    on_day(Q, DAY - 1, last, 498);
+    on_day(Q, 1, last, 497);
+    on_day(SIXTY, DAY_60 - 1, last, 415);
+    assert_eq!(counts(Q, &change(last), 1, 0), [0, 0]);
+    // The days before and after 498 midnights.
+    on_day(Q, 0, 4_302_719_999, 497);
+    on_day(Q, 0, 4_302_720_000, 498);
+    on_day(Q, 1, 4_302_719_999, 498);
+    // 8 + 2^32 is on day 497, not on day 0.
+    on_day(Q, 0, (1 << 32) + 8, 497);
+    assert_eq!(counts(Q, &change((1 << 32) + 8), 0, 0), [0, 0]);
+}
+
+/// 2^64 is 2,135,039,823,346 days of 50 Hz and 111,616 half-cycles; z + start passes 8 bytes.
+#[test]
+fn the_last_starts() {
+    on_day(Q, 0, u64::MAX >> 1, 1_067_519_911_673);
+    on_day(Q, 0, u64::MAX, 2_135_039_823_346);
+    on_day(Q, 1, u64::MAX, 2_135_039_823_346);
+    on_day(Q, DAY - 111_616, u64::MAX, 2_135_039_823_346);
+    on_day(Q, DAY - 111_615, u64::MAX, 2_135_039_823_347);
+    on_day(Q, DAY - 1, u64::MAX, 2_135_039_823_347);
+    on_day(SIXTY, DAY_60 - 1, u64::MAX, 1_779_199_852_789);
+    for z in [0, 1, DAY - 1] {
+        assert_eq!(counts(Q, &change(u64::MAX), z, 0), [0, 0]);
+    }
 }
 
 #[test]
 fn its_end_does_not_matter() {
-    for duration in [0, 1, 8_640_000, u32::MAX] {
+    for duration in [0, 1, 8_640_000, u32::MAX as u64, u64::MAX] {
         let mut list = change(8_639_999);
-        list[8..12].copy_from_slice(&duration.to_le_bytes());
+        list[12..20].copy_from_slice(&duration.to_le_bytes());
         assert_eq!(counts(Q, &list, 0, 0), [1, 1]);
         assert_eq!(counts(Q, &list, 0, 1), [0, 0]);
     }
 }
 
-/// No day of so high a number has a value, whatever is cut or wraps.
+/// No day of so high a number has one of these starts, whatever is cut or wraps.
 #[test]
 fn the_highest_days() {
-    let list = [change(0), change(8_640_000), change(u32::MAX)].concat();
+    let list = [change(0), change(8_640_000), change(u32::MAX as u64), change(u64::MAX)].concat();
     for day in [499, 1 << 32, (1 << 32) + 1, 1 << 55, (1 << 55) + 1, 1 << 63, u64::MAX] {
         for z in [0, 1, DAY - 1] {
             assert_eq!(counts(Q, &list, z, day), [0, 0], "{day}");
@@ -219,8 +243,8 @@ fn fifteen() {
 #[test]
 fn sixteen() {
     let list = change(0).repeat(3);
-    for length in 0..=60 {
-        let expected = if length % 20 == 0 { 0 } else { 16 };
+    for length in 0..=84 {
+        let expected = if length % 28 == 0 { 0 } else { 16 };
         assert_eq!(number(Q, &list[..length], 0), expected, "{length}");
     }
     // A bad kind in what is no whole record.
@@ -266,18 +290,18 @@ fn in_that_order() {
         settings[at..at + 4].fill(255);
         assert_eq!(refused(&settings, u64::MAX, &bad, 31), expected);
         assert_eq!(refused(&settings, 0, &bad, 31), expected);
-        assert_eq!(refused(&settings, 0, &bad[..20], 31), expected);
+        assert_eq!(refused(&settings, 0, &bad[..28], 31), expected);
         assert_eq!(refused(&settings, 0, &change(0), 31), expected);
         assert_eq!(refused(&settings, 0, &change(0), 32), expected);
     }
     for z in [DAY, u64::MAX] {
         assert_eq!(refused(&good, z, &bad, 31), 15);
-        assert_eq!(refused(&good, z, &bad[..20], 31), 15);
+        assert_eq!(refused(&good, z, &bad[..28], 31), 15);
         assert_eq!(refused(&good, z, &change(0), 31), 15);
     }
     assert_eq!(refused(&good, DAY - 1, &bad, 31), 16);
-    assert_eq!(refused(&good, DAY - 1, &change(0)[..19], 31), 16);
-    assert_eq!(refused(&good, DAY - 1, &bad[..20], 31), 17);
+    assert_eq!(refused(&good, DAY - 1, &change(0)[..27], 31), 16);
+    assert_eq!(refused(&good, DAY - 1, &bad[..28], 31), 17);
     assert_eq!(refused(&good, DAY - 1, &change(0), 31), 13);
     assert_eq!(refused(&good, DAY - 1, &change(0), 32), 0);
 }
@@ -287,7 +311,7 @@ fn in_that_order() {
 fn a_recorded_change() {
     let samples = [vec![100; 8 * 150], vec![96; 8 * 103]].concat();
     let records = feed(Q, &samples, 2000).records;
-    assert_eq!(records.len(), 20);
+    assert_eq!(records.len(), 28);
     assert_eq!(counts(Q, &records, 0, 0), [1, 0]);
     // It starts at 151.
     assert_eq!(counts(Q, &records, DAY - 152, 0), [1, 0]);

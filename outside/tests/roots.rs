@@ -5,6 +5,7 @@ mod common;
 
 use common::{feed, Q};
 use outside::rng::Rng;
+use outside::rules::RECORD;
 use outside::squares::{self, Part};
 use outside::{readings, waves};
 
@@ -52,11 +53,11 @@ fn small_roots(before: i16) {
         for &n in chunk {
             samples.extend([vec![before; 256], half(n), half(n)].concat());
         }
-        let left = feed(settings, &samples, 20 * 400);
+        let left = feed(settings, &samples, RECORD * 400);
         assert_eq!(left.fed.taken as usize, samples.len());
         for (i, &n) in chunk.iter().enumerate() {
-            // The values begin at 104; that of the two halves n is the second of three.
-            let at = 104 + 4 * (3 * i + 1);
+            // The values begin at 108; that of the two halves n is the second of three.
+            let at = 108 + 4 * (3 * i + 1);
             let value = u32::from_le_bytes(left.image[at..at + 4].try_into().unwrap());
             assert_eq!(value as usize, n.isqrt(), "{n} after {before}");
         }

@@ -31,7 +31,7 @@ fn triples(channels: [Halves; 3]) -> Vec<i16> {
 }
 
 /// Feeds all samples from the start on, through the engineer and the logger.
-fn feed(settings: [u32; 9], samples: &[i16], room: usize) -> (Fed, Vec<[u32; 5]>, Looked) {
+fn feed(settings: [u32; 9], samples: &[i16], room: usize) -> (Fed, Vec<[u64; 5]>, Looked) {
     let mut engineer = Engineer::start(&bytes(settings)).unwrap();
     let mut logger = Logger::start(&bytes(settings)).unwrap();
     let (fed, records) = engineer.feed(samples, room).unwrap();
@@ -45,7 +45,7 @@ fn feed(settings: [u32; 9], samples: &[i16], room: usize) -> (Fed, Vec<[u32; 5]>
     (fed, list, engineer.look())
 }
 
-fn records(settings: [u32; 9], channels: [Halves; 3]) -> Vec<[u32; 5]> {
+fn records(settings: [u32; 9], channels: [Halves; 3]) -> Vec<[u64; 5]> {
     feed(settings, &triples(channels), 2000).1
 }
 
@@ -78,10 +78,10 @@ fn a_change_that_begins_in_one_channel_and_ends_in_another() {
 fn record_room() {
     let all = triples(A_DIP_AND_A_SWELL);
     // The dip and the swell both end with value 6, which the last triple of half-cycle 7 makes.
-    for room in [0, 19, 20, 39] {
+    for room in [0, RECORD - 1, RECORD, 2 * RECORD - 1] {
         assert_eq!(feed(Q, &all, room).0, Fed { taken: 165, written: 0, why: 1 });
     }
-    assert_eq!(feed(Q, &all, 40).0, Fed { taken: 192, written: 2, why: 0 });
+    assert_eq!(feed(Q, &all, 2 * RECORD).0, Fed { taken: 192, written: 2, why: 0 });
     assert_eq!(feed(Q, &[], 0).0, Fed { taken: 0, written: 0, why: 0 });
 }
 
@@ -96,16 +96,16 @@ fn a_block_that_is_not_of_triples() {
     logger.feed(&block[..144], &mut []).unwrap();
     let looked = engineer.look();
     for length in [1, 2, 4, 5, 47] {
-        let mut room = [7; 60];
-        assert_eq!(engineer.feed(&all[144..144 + length], 60), Err(14));
+        let mut room = [7; 3 * RECORD];
+        assert_eq!(engineer.feed(&all[144..144 + length], 3 * RECORD), Err(14));
         assert_eq!(logger.feed(&block[144..144 + length], &mut room), Err(14));
-        assert_eq!(room, [7; 60]);
+        assert_eq!(room, [7; 3 * RECORD]);
         assert_eq!((engineer.look(), logger.look()), (looked, looked));
     }
     // It goes on as if they had not been.
-    let (fed, _) = engineer.feed(&all[144..], 60).unwrap();
+    let (fed, _) = engineer.feed(&all[144..], 3 * RECORD).unwrap();
     assert_eq!(fed, Fed { taken: 48, written: 2, why: 0 });
-    assert_eq!(logger.feed(&block[144..], &mut [0; 60]), Ok(fed));
+    assert_eq!(logger.feed(&block[144..], &mut [0; 3 * RECORD]), Ok(fed));
 }
 
 #[test]
@@ -247,12 +247,12 @@ fn three_records_at_one_value() {
     // counts, is 1440, and the first not below it.
     let each: Halves = &[(150, 90), (2, 94), (98, 90), (2, 89), (3, 91)];
     let all = triples([each; 3]);
-    let (fed, list, looked) = feed(s, &all, 60);
+    let (fed, list, looked) = feed(s, &all, 3 * RECORD);
     assert_eq!(fed, Fed { taken: all.len() as u64, written: 3, why: 0 });
     let expected = [[1, 250, 2, 1424, 0], [3, 250, 2, 1424, 0], [4, 151, 1, 6368, 56]];
     assert_eq!(list, expected);
     assert_eq!((looked.phase, looked.stand), (2, [false; 3]));
-    for room in [0, 20, 40, 59] {
+    for room in [0, RECORD, 2 * RECORD, 3 * RECORD - 1] {
         let (fed, _, looked) = feed(s, &all, room);
         assert_eq!(fed, Fed { taken: 24 * 253 - 3, written: 0, why: 1 });
         assert_eq!((looked.phase, looked.stand), (3, [true, false, true]));
@@ -277,7 +277,7 @@ fn marks_of_one_channel() {
             }
             let (_, list, _) = feed(HIGH, &all, 2000);
             // The dip has values 3 to 5, which are half-cycles 3 to 6.
-            let mark = (3..=6).contains(&clipped) as u32;
+            let mark = (3..=6).contains(&clipped) as u64;
             assert_eq!(list.len(), 1);
             assert_eq!(list[0][..3], [1 | mark << 8, 3, 3], "half-cycle {clipped} of {c}");
         }
@@ -304,7 +304,7 @@ fn marks_of_a_change() {
             assert_eq!(list.len(), 1);
             let [kind, start, duration, ..] = list[0];
             let counts = (start..=start + duration + 1).contains(&clipped);
-            assert_eq!(kind, 4 | (counts as u32) << 8, "half-cycle {clipped} of {c}");
+            assert_eq!(kind, 4 | (counts as u64) << 8, "half-cycle {clipped} of {c}");
             assert_eq!(start, 151);
         }
     }
@@ -321,7 +321,7 @@ fn three_equal_channels() {
         let bytes = settings_bytes(&s);
         let mut single = engineer::Engineer::start(&bytes).unwrap();
         let mut three = Engineer::start(&bytes).unwrap();
-        let room = 20 * rng.range(0, 30) as usize;
+        let room = RECORD * rng.range(0, 30) as usize;
         let (fed, records) = single.feed(&one, room);
         let (fed_three, records_three) = three.feed(&three::waves::equal(&one), room).unwrap();
         assert_eq!(records_three, records);
@@ -347,11 +347,11 @@ fn the_greatest_number_of_triples() {
         let fits = |n: &usize| {
             let mut engineer = Engineer::start(&bytes(Q)).unwrap();
             engineer.feed(&all[..3 * n], usize::MAX).unwrap();
-            engineer.due().len() <= 20 * room
+            engineer.due().len() <= RECORD * room
         };
         let greatest = (0..=all.len() / 3).filter(fits).max().unwrap();
         let mut engineer = Engineer::start(&bytes(Q)).unwrap();
-        let (fed, _) = engineer.feed(&all, 20 * room).unwrap();
+        let (fed, _) = engineer.feed(&all, RECORD * room).unwrap();
         assert_eq!(fed.taken as usize, 3 * greatest);
     }
 }

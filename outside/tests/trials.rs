@@ -9,8 +9,8 @@ use outside::call_lists::{example_samples as samples, List};
 use outside::engineer::{Answer, Call, Engineer, Fed};
 use outside::hosts::hosts;
 use outside::images::Fields;
-use outside::logger::Logger;
-use outside::rules::{self, IMAGE};
+use outside::logger::{Logger, END};
+use outside::rules::{self, IMAGE, RECORD};
 use outside::waves;
 
 fn fresh() -> Vec<u8> {
@@ -26,15 +26,15 @@ fn the_example_by_the_engineer() {
     let mut engineer = Engineer::start(&bytes(Q)).unwrap();
     let before = (engineer.image(), engineer.look());
     let trial = |room| Call::Trial { block: samples(), room };
-    for room in [0, 19] {
+    for room in [0, RECORD - 1] {
         assert_eq!(engineer.call(&trial(room)), Answer::Trial(told(55, 0, 1), vec![]));
     }
-    let Answer::Trial(fed, records) = engineer.call(&trial(20)) else { unreachable!() };
+    let Answer::Trial(fed, records) = engineer.call(&trial(RECORD)) else { unreachable!() };
     assert_eq!((fed, numbers(&records)), (told(64, 1, 0), [1, 3, 3, 800, 0]));
     // Nothing is kept.
     assert_eq!((engineer.image(), engineer.look()), before);
     assert_eq!((engineer.written().len(), engineer.due().len()), (0, 0));
-    assert_eq!(engineer.feed(&samples(), 20), (fed, records.clone()));
+    assert_eq!(engineer.feed(&samples(), RECORD), (fed, records.clone()));
     assert_eq!((engineer.written(), engineer.due()), (&records[..], records.clone()));
 }
 
@@ -44,16 +44,16 @@ fn the_example_by_the_logger() {
     let block = waves::bytes(&samples());
     let block = block.as_chunks::<2>().0;
     assert_eq!(logger.trial(block, &mut []), told(55, 0, 1));
-    let mut scratch = [7; 45];
+    let mut scratch = [7; RECORD + 25];
     assert_eq!(logger.trial(block, &mut scratch), told(64, 1, 0));
     assert_eq!(numbers(&scratch), [1, 3, 3, 800, 0]);
-    assert_eq!(scratch[20..], [7; 25]);
+    assert_eq!(scratch[RECORD..], [7; 25]);
     let mut image = [0; IMAGE];
     logger.save(&mut image).unwrap();
     assert_eq!(image[..], fresh());
-    let mut records = [7; 20];
+    let mut records = [7; RECORD];
     assert_eq!(logger.feed(block, &mut records), told(64, 1, 0));
-    assert_eq!(records, scratch[..20]);
+    assert_eq!(records, scratch[..RECORD]);
 }
 
 #[test]
@@ -61,21 +61,27 @@ fn the_example_by_the_hosts() {
     let samples = waves::bytes(&samples());
     for host in hosts() {
         let image = fresh();
-        let (mut scratch, mut told_so) = ([7; 45], [9; 30]);
+        let (mut scratch, mut told_so) = ([7; RECORD + 25], [9; 30]);
         let mut trial = |room: usize| {
             assert_eq!((host.trial)(&image, &samples, &mut scratch[..room], &mut told_so), 0);
             (Fed::of(&told_so), scratch, told_so[24..].to_vec())
         };
-        assert_eq!(trial(0), (told(55, 0, 1), [7; 45], vec![9; 6]), "{}", host.name);
-        assert_eq!(trial(19), (told(55, 0, 1), [7; 45], vec![9; 6]), "{}", host.name);
-        let (fed, scratch, behind) = trial(45);
+        let nothing = (told(55, 0, 1), [7; RECORD + 25], vec![9; 6]);
+        assert_eq!(trial(0), nothing, "{}", host.name);
+        assert_eq!(trial(RECORD - 1), nothing, "{}", host.name);
+        let (fed, scratch, behind) = trial(RECORD + 25);
         assert_eq!((fed, behind), (told(64, 1, 0), vec![9; 6]), "{}", host.name);
-        assert_eq!((numbers(&scratch), &scratch[20..]), ([1, 3, 3, 800, 0], &[7; 25][..]));
+        assert_eq!((numbers(&scratch), &scratch[RECORD..]), ([1, 3, 3, 800, 0], &[7; 25][..]));
         assert_eq!(image, fresh());
         // With room for one record, and no byte more.
-        let (mut new, mut records, mut reply) = ([0; IMAGE], [7; 20], [9; 24]);
+        let (mut new, mut records, mut reply) = ([0; IMAGE], [7; RECORD], [9; 24]);
         assert_eq!((host.advance)(&image, &samples, &mut new, &mut records, &mut reply), 0);
-        assert_eq!((&records[..], &reply[..]), (&scratch[..20], &told_so[..24]), "{}", host.name);
+        assert_eq!(
+            (&records[..], &reply[..]),
+            (&scratch[..RECORD], &told_so[..24]),
+            "{}",
+            host.name
+        );
     }
 }
 
@@ -89,10 +95,10 @@ fn the_example_in_a_list() {
     list.item(start, 0, 5, &bytes(Q));
     list.item(trial, 0xaa, 0, &block);
     list.item(look, 0, 0, &[]);
-    list.item(trial, 0xbb, 22, &block);
-    list.item(feed, 0xcc, 20, &block);
+    list.item(trial, 0xbb, RECORD + 2, &block);
+    list.item(feed, 0xcc, RECORD, &block);
     list.item(look, 0, 0, &[]);
-    let record = "0100000003000000030000002003000000000000";
+    let record = "01000000030000000000000003000000000000002003000000000000";
     let lines = ["start".into(), "trial 55 0 1 ".into(), "look 0 0 0 0 0 0 0".into()];
     let lines = [
         &lines[..],
@@ -150,21 +156,22 @@ fn the_refusals() {
 fn the_end_of_v() {
     let mut x = Fields::fresh(rules::settings(&bytes(Q)).unwrap());
     (x.whole, x.last, x.count, x.sum) = (1, 80_000, 3, 30_000);
-    (x.v, x.phase, x.events[0], x.events[1]) = (u32::MAX - 1, 2, u32::MAX - 9, 1400);
+    (x.v, x.phase, x.events[0], x.events[1]) = (END - 1, 2, END - 9, 1400);
     x.places[..100].fill(1600);
-    let record = [1, u32::MAX - 9, 9, 1400, 0];
+    let record = [1, END - 9, 9, 1400, 0];
     let samples = waves::bytes(&[100; 24]);
     for host in hosts() {
-        let (mut scratch, mut told_so) = ([7; 40], [0; 24]);
+        let (mut scratch, mut told_so) = ([7; RECORD + 20], [0; 24]);
         let mut trial = |x: &Fields, room: usize| {
             assert_eq!((host.trial)(&x.bytes(), &samples, &mut scratch[..room], &mut told_so), 0);
             (Fed::of(&told_so), scratch)
         };
-        assert_eq!(trial(&x, 19), (told(4, 0, 1), [7; 40]), "{}", host.name);
-        let (fed, scratch) = trial(&x, 40);
+        let nothing = (told(4, 0, 1), [7; RECORD + 20]);
+        assert_eq!(trial(&x, RECORD - 1), nothing, "{}", host.name);
+        let (fed, scratch) = trial(&x, RECORD + 20);
         assert_eq!((fed, numbers(&scratch)), (told(12, 1, 2), record), "{}", host.name);
-        assert_eq!(scratch[20..], [7; 20]);
-        let ended = x.but(|x| x.v = u32::MAX);
+        assert_eq!(scratch[RECORD..], [7; 20]);
+        let ended = x.but(|x| x.v = END);
         assert_eq!(trial(&ended, 0).0, told(4, 0, 2), "{}", host.name);
     }
 }

@@ -12,8 +12,8 @@ use Rattle.numbers.specs.Answers.Answered.{accepted, refused}
 use Rattle.numbers.specs.Rules.{Rule, passes}
 use Rattle.settings.specs.declared.Settings.{Settings}
 use Rattle.settings.specs.Settings.{windowLength}
-use Rattle.reading.specs.Layout.{places, gathererWidths, valuesWidths, eventsWidths}
-use Rattle.reading.specs.Image.{table}
+use Rattle.reading.specs.Layout.{countWidth, places, gathererWidths, valuesWidths, eventsWidths}
+use Rattle.reading.specs.Image.{tableWith}
 use Rattle.reading.specs.Restore.{sameBytes, gathererRule, valuesRule, eventsRule}
 use Rattle.rms.specs.declared.Gatherer.{Gatherer}
 use Rattle.threshold.specs.declared.Standing.{Standing}
@@ -81,9 +81,9 @@ abbrev pub valuesNumber : Verdict → ℕ
 valuesNumber Good = 0
 valuesNumber Bad = 11
 
--- the table's refusal
-abbrev pub tableRefusal : List ℕ → ℕ
-tableRefusal b = refuse 9 unless sameBytes b table then 0
+-- the table's refusal, in the edition whose counts have c bytes
+abbrev pub tableRefusal : ℕ → List ℕ → ℕ
+tableRefusal c b = refuse 9 unless sameBytes b (tableWith c) then 0
 
 -- that of a body behind it: 11 where it breaks a rule
 abbrev pub bodyRefusal : Rule → ℕ
@@ -99,7 +99,7 @@ gathererAnswer s body = let ns = numbersIn gathererWidths body in answered (body
 
 -- body 3: where its marks stand, behind V and the values
 abbrev pub marksAt : ℕ
-marksAt = 4 + 4 * places
+marksAt = countWidth + 4 * places
 
 -- its verdict, V, and the places of values and of marks, good or not
 pub record WindowTold (s : Settings) (whole : Bool) (body : List ℕ) (r : WindowRead) : Type 0 where

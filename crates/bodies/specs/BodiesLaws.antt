@@ -1,21 +1,20 @@
 -- Each body there and back, both ways, over its numbers: an allowed state's numbers fit their row, are allowed, and are read back as that state; allowed numbers are
--- those of the state that is read from them, which is allowed. And the table's test passes for equal bytes only.
+-- those of the state that is read from them, which is allowed. And the table's test passes for equal bytes, and for no others.
 use mathlib.Core.Path.{_≡_, refl, sym, ap₂, subst}
 use mathlib.Core.Bool.{true}
 use mathlib.Core.List.{List, [], _∷_, _++_}
 use Prim.Native.Nat.{ℕ, zero, suc, _+_, _≤_, _<_, _^_}
 use native.Mathlib.Omega.{arith}
 use lib.ListN.{length, getD, replicate}
-use borrow.Author.Tests.{eqb-true}
+use borrow.Author.Tests.{eqb-true, eq-eqb}
 use Rattle.octets.specs.Bytes.{numbersIn, fours, ones}
 use Rattle.octets.specs.BytesLaws.{bytes-by}
 use Rattle.octets.specs.RowLaws.{Fit, fits-fours, fits-ones, fit-append}
 use Rattle.numbers.specs.Notation.{_≡ᵇ_, flag}
-use Rattle.numbers.specs.NotationLaws.{and-left, and-right, flag-most, flag-back, back-flag}
+use Rattle.numbers.specs.NotationLaws.{and-true, and-left, and-right, flag-most, flag-back, back-flag}
 use Rattle.numbers.specs.Rules.{Holds}
 use Rattle.numbers.specs.Rules.Rule.{_≡ʳ_, allZero, _and_}
-use Rattle.reading.specs.Layout.{places, gathererWidths, valuesWidths, eventsWidths}
-use Rattle.reading.specs.Feed.{lastValue}
+use Rattle.reading.specs.Layout.{places, gathererWidths, valuesWidthsWith, eventsWidthsWith, eventsWidths}
 use Rattle.reading.specs.Restore.{sameBytes, valueMost, phaseRule, standingRule, eventsRule}
 use Rattle.rms.specs.declared.Gatherer.{Gatherer}
 use Rattle.rms.specs.Gather.{gathererRow, ValidGatherer}
@@ -37,6 +36,10 @@ same-equal [] (y ∷ ys) e = let z : _≡_ {A = ℕ} 0 1 = cc in absurd (omega a
 same-equal (x ∷ xs) [] e = let z : _≡_ {A = ℕ} 0 1 = cc in absurd (omega arith)
 same-equal (x ∷ xs) (y ∷ ys) e = ap₂ _∷_ (eqb-true x y (and-left (x ≡ᵇ y) (sameBytes xs ys) e)) (same-equal xs ys (and-right (x ≡ᵇ y) (sameBytes xs ys) e))
 
+pub same-itself : (xs : List ℕ) → sameBytes xs xs ≡ true
+same-itself [] = refl
+same-itself (x ∷ xs) = and-true (eq-eqb x x refl) (same-itself xs)
+
 -- body 2
 pub gatherer-fits : (m : ℕ) (g : Gatherer) → m ≤ 256 → ValidGatherer m g → Fit gathererWidths (gathererRow g)
 gatherer-fits m g most valid = (omega arith, (omega arith, (omega arith, (omega arith, (omega arith, (omega arith, tt))))))
@@ -57,8 +60,8 @@ gatherer-again count sum last whole mark last-mark h₀ h₁ h₂ =
     λ i. count ∷ sum ∷ last ∷ back-flag whole h₀ i ∷ back-flag mark h₁ i ∷ back-flag last-mark h₂ i ∷ []
 
 -- body 3
-pub values-fit : (n v : ℕ) (w marks : List ℕ) → v ≤ lastValue → ValidWindow valueMost n v w → ValidWindow 1 n v marks → Fit valuesWidths (v ∷ (w ++ marks))
-values-fit n v w marks most valid marked =
+pub values-fit : (c n v : ℕ) (w marks : List ℕ) → v < 256 ^ c → ValidWindow valueMost n v w → ValidWindow 1 n v marks → Fit (valuesWidthsWith c) (v ∷ (w ++ marks))
+values-fit c n v w marks most valid marked =
     let values : Fit (fours w) w = fits-fours w (λ i. let h = valid .allowed .0 i in omega arith) in
     let bytes : Fit (ones marks) marks = fits-ones marks (bytes-by marks (λ i. let h = marked .allowed .0 i in omega arith)) in
     (omega arith, fit-append (replicate places 4) (replicate places 1) w marks (rw (valid .size) at values) (rw (marked .size) at bytes))
@@ -108,11 +111,12 @@ module _ (d : Detector) where
       go (Changing c) = with-events (λ i. Changing (change-back c i))
 
   module _ (n : ℕ) (valid : ValidDetector n d) where
-    pub detector-fits : n ≤ 120 → d .count ≤ lastValue → Fit eventsWidths (detectorRow d)
-    detector-fits n-le most = go (d .phase) (valid-allowed n (d .count) (d .phase) (valid .phase-valid))
+    -- in any edition whose width holds V
+    pub detector-fits : (c : ℕ) → n ≤ 120 → d .count < 256 ^ c → Fit (eventsWidthsWith c) (detectorRow d)
+    detector-fits c n-le most = go (d .phase) (valid-allowed n (d .count) (d .phase) (valid .phase-valid))
       where
         -- the events, their marks and that of a change
-        events : (mark : ℕ) → mark ≤ 1 → Fit (replicate 10 4) (standingRow (d .dip) ++ (standingRow (d .swell) ++ (standingRow (d .interruption)
+        events : (mark : ℕ) → mark ≤ 1 → Fit (c ∷ 4 ∷ c ∷ 4 ∷ c ∷ 4 ∷ replicate 4 4) (standingRow (d .dip) ++ (standingRow (d .swell) ++ (standingRow (d .interruption)
             ++ (flag (d .dip .clipped) ∷ flag (d .swell .clipped) ∷ flag (d .interruption .clipped) ∷ mark ∷ []))))
         events mark mark-le =
             let dip = valid .dip-valid in
@@ -120,14 +124,14 @@ module _ (d : Detector) where
             let interruption = valid .interruption-valid in
             (omega arith, (omega arith, (omega arith, (omega arith, (omega arith, (omega arith, (omega arith, (omega arith, (omega arith, (omega arith, tt))))))))))
 
-        go : (q : Phase) → Allowed n (d .count) q → Fit eventsWidths (detectorRow (withPhase q))
+        go : (q : Phase) → Allowed n (d .count) q → Fit (eventsWidthsWith c) (detectorRow (withPhase q))
         go Filling h = (omega arith, (omega arith, (omega arith, (omega arith, (omega arith, events 0 (omega arith))))))
         go Unsettled h = (omega arith, (omega arith, (omega arith, (omega arith, (omega arith, events 0 (omega arith))))))
         go Steady h = (omega arith, (omega arith, (omega arith, (omega arith, (omega arith, events 0 (omega arith))))))
-        go (Changing c) h = (omega arith, (omega arith, (omega arith, (omega arith, (stand-lt, events (flag (c .clipped)) (flag-most (c .clipped)))))))
+        go (Changing x) h = (omega arith, (omega arith, (omega arith, (omega arith, (stand-lt, events (flag (x .clipped)) (flag-most (x .clipped)))))))
           where
-            stand-lt : c .stand < 256 ^ 4
-            stand-lt = omega (arith, stood-le (c .stand) (h .1 .1 .1 .1 .1 .0))
+            stand-lt : x .stand < 256 ^ c
+            stand-lt = omega (arith, stood-le (x .stand) (h .1 .1 .1 .1 .1 .0))
 
     pub detector-allowed : Holds (eventsRule n (d .count) (detectorRow d))
     detector-allowed = go (d .phase) (valid .phase-valid)

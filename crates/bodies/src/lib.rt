@@ -8,10 +8,11 @@ use settings::Settings;
 use threshold::Standing;
 ghost use mathlib.Core.Path.{_≡_};
 ghost use mathlib.Core.List.{_∷_, _++_};
+ghost use Prim.Native.Nat.{_+_, _*_, _≤_};
 ghost use lib.ListN.{length};
-ghost use Rattle.octets.specs.Bytes.{row};
+ghost use Rattle.octets.specs.Bytes.{row, numbersIn};
 ghost use Rattle.reading.specs.Layout.{tableLength, gathererWidths, gathererLength, valuesWidths, valuesLength, eventsWidths, eventsLength};
-ghost use Rattle.reading.specs.Image.{table};
+ghost use Rattle.reading.specs.Image.{tableWith};
 ghost use Rattle.rms.specs.Gather.{gathererRow};
 ghost use Rattle.rvc.specs.Phase.{phaseRow, phaseMark};
 ghost use Rattle.bodies.specs.Bodies.{detectorRow, phaseOfNumber, tableNumber, tableRefusal, gathererTold, gathererAnswer, WindowTold};
@@ -46,17 +47,20 @@ const GATHERER_WIDTHS: [u8; 6] = [4, 8, 8, 4, 4, 4];
 
 const GATHERER_LENGTH: usize = 4 + 8 + 8 + 4 + 4 + 4;
 
+// How many bytes a count of values takes in this edition: V, k, the fourth number of a change, a start, a duration.
+pub const COUNT_WIDTH: usize = 8;
+
 // Body 3: V, 120 places for values, and as many for their marks.
-const COUNT_LENGTH: usize = 4;
+const MARKS_AT: usize = COUNT_WIDTH + 4 * 120;
 
-const MARKS_AT: usize = COUNT_LENGTH + 4 * 120;
+pub const PLACES_LENGTH: usize = 4 * 120 + 120;
 
-const VALUES_LENGTH: usize = MARKS_AT + 120;
+const VALUES_LENGTH: usize = COUNT_WIDTH + PLACES_LENGTH;
 
 // Body 4: the phase and a change's four numbers; start and magnitude of dip, swell and interruption; the marks of dip, swell, interruption and change.
-const EVENTS_WIDTHS: [u8; 15] = [4; 15];
+const EVENTS_WIDTHS: [u8; 15] = [4, 8, 4, 4, 8, 8, 4, 8, 4, 8, 4, 4, 4, 4, 4];
 
-const EVENTS_LENGTH: usize = 4 * 15;
+const EVENTS_LENGTH: usize = 5 * COUNT_WIDTH + 10 * 4;
 
 // Where the sections stand, one behind the other; the table has four entries of 4, 2 and 2 bytes.
 pub const SETTINGS_AT: usize = 4 * (4 + 2 + 2);
@@ -69,38 +73,38 @@ pub const EVENTS_AT: usize = VALUES_AT + VALUES_LENGTH;
 
 pub const IMAGE_LENGTH: usize = EVENTS_AT + EVENTS_LENGTH;
 
-// Code, offset and length of each body.
-const TABLE: [u64; 12] = [
-    1,
-    SETTINGS_AT as u64,
-    Settings::LENGTH as u64,
-    2,
-    GATHERER_AT as u64,
-    GATHERER_LENGTH as u64,
-    3,
-    VALUES_AT as u64,
-    VALUES_LENGTH as u64,
-    4,
-    EVENTS_AT as u64,
-    EVENTS_LENGTH as u64,
-];
-
 const TABLE_WIDTHS: [u8; 12] = [4, 2, 2, 4, 2, 2, 4, 2, 2, 4, 2, 2];
 
-pub fn put_table(part: &mut [u8])
-    requires { ⌜ length (now part) ≡ tableLength ⌝ }
-    ensures { λ _. ⌜ now (part .exit) ≡ table ⌝ }
+// Code, offset and length of each body, in the edition whose counts have so many bytes.
+pub fn put_table(part: &mut [u8], count_width: u64)
+    requires { ⌜ (length (now part) ≡ tableLength) × («count_width» ≤ 8) ⌝ }
+    ensures { λ _. ⌜ now (part .exit) ≡ tableWith «count_width» ⌝ }
 {
+    let values_length = count_width + PLACES_LENGTH as u64;
     let widths = TABLE_WIDTHS;
-    let numbers = TABLE;
+    let numbers = [
+        1,
+        SETTINGS_AT as u64,
+        Settings::LENGTH as u64,
+        2,
+        GATHERER_AT as u64,
+        GATHERER_LENGTH as u64,
+        3,
+        VALUES_AT as u64,
+        values_length,
+        4,
+        VALUES_AT as u64 + values_length,
+        5 * count_width + 10 * 4,
+    ];
     octets::put_row(part, &widths, &numbers);
 }
 
-pub fn read_table(part: &[u8]) -> Verdict
-    ensures { λ r. ⌜ tableNumber r ≡ tableRefusal (now (part .entry)) ⌝ }
+pub fn read_table(part: &[u8], count_width: u64) -> Verdict
+    requires { ⌜ «count_width» ≤ 8 ⌝ }
+    ensures { λ r. ⌜ tableNumber r ≡ tableRefusal «count_width» (now (part .entry)) ⌝ }
 {
     let mut expected = [0u8; SETTINGS_AT];
-    put_table(&mut expected);
+    put_table(&mut expected, count_width);
     if check::same(part, &expected) {
         Verdict::Good
     } else {
@@ -151,8 +155,8 @@ pub fn put_values<'a>(part: &mut [u8], count: u64, window: &'a [u32], marks: &'a
     requires { ⌜ (length (now part) ≡ valuesLength) × (length (now window) ≡ 120) × (length (now marks) ≡ 120) ⌝ }
     ensures { λ _. ⌜ now (part .exit) ≡ row valuesWidths (count ∷ (now (window .entry) ++ now (marks .entry))) ⌝ }
 {
-    octets::put_number(&mut part[0..COUNT_LENGTH], count);
-    octets::put_words(&mut part[COUNT_LENGTH..MARKS_AT], window);
+    octets::put_number(&mut part[0..COUNT_WIDTH], count);
+    octets::put_words(&mut part[COUNT_WIDTH..MARKS_AT], window);
     octets::copy(&mut part[MARKS_AT..VALUES_LENGTH], marks);
 }
 
@@ -161,9 +165,9 @@ pub fn read_window(part: &[u8], settings: Settings, whole: bool) -> WindowRead
     requires { ⌜ length (now part) ≡ valuesLength ⌝ }
     ensures { λ r. ⌜ WindowTold settings whole (now (part .entry)) r ⌝ }
 {
-    let count = octets::number(&part[0..COUNT_LENGTH]);
+    let count = octets::number(&part[0..COUNT_WIDTH]);
     let mut window = [0u32; 120];
-    octets::get_words(&part[COUNT_LENGTH..MARKS_AT], &mut window);
+    octets::get_words(&part[COUNT_WIDTH..MARKS_AT], &mut window);
     let mut marks = [0u8; 120];
     octets::copy(&mut marks, &part[MARKS_AT..VALUES_LENGTH]);
     if rules::values_good(&window, &marks, count, settings.window_length(), whole) {
@@ -237,6 +241,46 @@ pub fn put_detector(part: &mut [u8], detector: Detector)
     octets::put_row(part, &widths, &numbers);
 }
 
+// A word of 4 bytes as a number.
+fn word(low: u32) -> u64
+    ensures { λ r. ⌜ r ≡ low ⌝ }
+{
+    low as u64
+}
+
+// A number of 8 bytes from its two words, the lower one first.
+fn wide(low: u32, high: u32) -> u64
+    ensures { λ r. ⌜ r ≡ low + 4294967296 * high ⌝ }
+{
+    low as u64 + 4_294_967_296 * high as u64
+}
+
+// Body 4 is read in words of 4 bytes, two to a count: the compiler reads a word in one step, and 8 bytes one by one.
+fn events_numbers(part: &[u8]) -> [u64; 15]
+    requires { ⌜ length (now part) ≡ eventsLength ⌝ }
+    ensures { λ r. ⌜ r ≡ numbersIn eventsWidths (now (part .entry)) ⌝ }
+{
+    let mut words = [0u32; 20];
+    octets::get_words(part, &mut words);
+    [
+        word(words[0]),
+        wide(words[1], words[2]),
+        word(words[3]),
+        word(words[4]),
+        wide(words[5], words[6]),
+        wide(words[7], words[8]),
+        word(words[9]),
+        wide(words[10], words[11]),
+        word(words[12]),
+        wide(words[13], words[14]),
+        word(words[15]),
+        word(words[16]),
+        word(words[17]),
+        word(words[18]),
+        word(words[19]),
+    ]
+}
+
 // The phase of its number, with what a change carries.
 fn phase_of(number: u64, change: Change) -> Phase
     ensures { λ r. ⌜ r ≡ phaseOfNumber number change ⌝ }
@@ -253,9 +297,7 @@ pub fn read_detector(part: &[u8], settings: Settings, count: u64) -> DetectorRea
     requires { ⌜ length (now part) ≡ eventsLength ⌝ }
     ensures { λ r. ⌜ detectorTold r ≡ detectorAnswer settings count (now (part .entry)) ⌝ }
 {
-    let widths = EVENTS_WIDTHS;
-    let mut numbers = [0u64; 15];
-    octets::get_row(part, &widths, &mut numbers);
+    let numbers = events_numbers(part);
     if !rules::events_good(&numbers, settings.window_length(), count) {
         return DetectorRead::Refused;
     }

@@ -85,7 +85,7 @@ pub record DayReadings : Type 0 where
       map (onDays q 8639999 (1 ∷ 2 ∷ [])) (1 ∷ 8640000 ∷ 8640001 ∷ []) ≡ (there ∷ notThere ∷ []) ∷ (there ∷ notThere ∷ []) ∷ (notThere ∷ there ∷ []) ∷ []
   pub midnight-with-z-60 : onDays (q60 1600) 10367999 (0 ∷ 1 ∷ []) 1 ≡ notThere ∷ there ∷ []
   -- the last start that a record can have
-  pub last-start : onDays q 8639999 (497 ∷ 498 ∷ []) 4294967295 ≡ notThere ∷ there ∷ []
+  pub last-start : onDays q 8639999 (2135039823346 ∷ 2135039823347 ∷ []) (2 ^ 64 - 1) ≡ notThere ∷ there ∷ []
   -- a day that 4 bytes would take for day 0, one that times a day's length is 0 in 8 bytes, and the last number of 8 bytes
   pub far-days : onDays q 0 (0 ∷ 2 ^ 32 ∷ 2 ^ 55 ∷ (2 ^ 64 - 1) ∷ []) 1 ≡ there ∷ notThere ∷ notThere ∷ notThere ∷ []
   -- 24 are not over and 25 are; above 35 kV 12 and 13; each count by itself
@@ -99,7 +99,7 @@ pub record DayReadings : Type 0 where
       map (numberFor (settingsBytes q) []) (8639999 ∷ 8640000 ∷ []) ++ map (numberFor (settingsBytes (q60 1600)) []) (10367999 ∷ 10368000 ∷ [])
       ≡ 0 ∷ 15 ∷ 0 ∷ 15 ∷ []
   -- a byte less than a record, a byte more; kinds outside 1 to 4, of another day, and those four
-  pub bytes-refused : numbersFor (take 19 (kindBytes 4) ∷ (kindBytes 4 ++ (4 ∷ [])) ∷ []) ≡ 16 ∷ 16 ∷ []
+  pub bytes-refused : numbersFor (take 27 (kindBytes 4) ∷ (kindBytes 4 ++ (4 ∷ [])) ∷ []) ≡ 16 ∷ 16 ∷ []
   pub kinds-refused : numbersFor (kindBytes 0 ∷ kindBytes 5 ∷ (kindBytes 4 ++ kindBytes 255) ∷ []) ≡ 17 ∷ 17 ∷ 17 ∷ []
   pub kinds-accepted : numbersFor (map kindBytes (1 ∷ 2 ∷ 3 ∷ 4 ∷ [])) ≡ 0 ∷ 0 ∷ 0 ∷ 0 ∷ []
   -- where several apply: the settings' own, z, the list's length, a kind

@@ -141,9 +141,6 @@ pub fn join_window(
 }
 
 impl Detector {
-    // V's end.
-    pub const LAST_VALUE: u64 = 4_294_967_295;
-
     pub fn new() -> Detector
         ensures { λ r. ⌜ r ≡ noValue ⌝ }
     {

@@ -1,5 +1,6 @@
 // Feed: a block of samples, half-cycle by half-cycle. Each is taken with the records due at its value, or it is not taken, nothing changes, and the feed ends.
 use detection::Detector;
+use reading::LAST_VALUE;
 use reading::Told;
 use records::RECORD_LENGTH;
 use rms::Gatherer;
@@ -73,7 +74,7 @@ fn complete(
         };
     }
     let count = detector.count;
-    if count == Detector::LAST_VALUE {
+    if count == LAST_VALUE {
         return refused(gatherer, detector, sums, 2);
     }
     let window_length = settings.window_length();

@@ -15,32 +15,33 @@ use Rattle.reading.specs.Engineer.{tooShort}
 use Rattle.reading.specs.Layout.{imageLength, replyLength, dayReplyLength}
 use Rattle.samples.specs.Samples.{samplesOf}
 use Rattle.state.specs.declared.State.{State}
+use Rattle.state.specs.State.{fresh}
 use Rattle.state.specs.Calls.{fedWith}
 use Rattle.image.specs.declared.Acceptance.{Acceptance}
 use Rattle.image.specs.declared.Acceptance.the-variants.{Accepted, Refused}
 use Rattle.image.specs.Image.{stateAt, saveAnswer, acceptanceTold}
 use Rattle.logger.specs.Logger.{fedTo, savedTo}
-use Rattle.logger.specs.Calls.{loggerCalls}
+use Rattle.logger.specs.Calls.{loggerCalls, spareSettings, Resumes}
 use Rattle.logger.specs.CallsLaws.{restore-accepted, restore-refused}
 use Rattle.day_count.specs.declared.DayCount.{DayCount}
 use Rattle.day_count.specs.declared.Counted.{Counted}
 use Rattle.day_count.specs.declared.Counted.the-variants.{Day, Refused as NotCounted}
 use Rattle.day_count.specs.Days.{dayCounted, countedTold}
-use Rattle.host.specs.Host.{blockRefusal, replyRefusal, advanceRefusal, tryRefusal, Resumes}
+use Rattle.host.specs.Host.{blockRefusal, replyRefusal, advanceRefusal, tryRefusal}
 use Rattle.host.specs.Host.{replied, advancedTo, advancedBy, advanced, blockTriedTo, blockTriedBy, blockTried}
 use Rattle.host.specs.Host.{CountedDay, dayReplied, countedTo, countedBy, counted}
 
 -- what the answer to an image tells of it
 module _ {image : List ℕ} {st : State} {told : Acceptance} (resumes : Resumes image st told) where
-  told-is : loggerCalls .restore (resumes .spare) image .answer ≡ acceptanceTold told
+  told-is : loggerCalls .restore (fresh spareSettings) image .answer ≡ acceptanceTold told
   told-is = sym (ap (λ (r : Restoration State). r .answer) (resumes .restored))
 
   refused-with : (n : ℕ) → told ≡ Refused n → (restoreRefusal image ≡ n) × (0 < n)
-  refused-with n e = restore-refused (resumes .spare) image n (told-is ∙ ap acceptanceTold e)
+  refused-with n e = restore-refused (fresh spareSettings) image n (told-is ∙ ap acceptanceTold e)
 
   accepted-as : told ≡ Accepted → (restoreRefusal image ≡ 0) × (st ≡ stateAt image)
   accepted-as e =
-      let read = restore-accepted (resumes .spare) image (told-is ∙ ap acceptanceTold e) in
+      let read = restore-accepted (fresh spareSettings) image (told-is ∙ ap acceptanceTold e) in
       (read .0, ap (λ (r : Restoration State). r .after) (resumes .restored) ∙ read .1)
 
 -- what advance and try begin with

@@ -1,5 +1,4 @@
 -- What the calls of a host answer, and what they leave in each lent buffer.
-use mathlib.Core.Path.{_≡_}
 use mathlib.Core.Bool.{Bool, not}
 use mathlib.Core.List.{List, [], _∷_}
 use Prim.Native.Nat.{ℕ, zero, suc, _%_}
@@ -15,9 +14,7 @@ use Rattle.reading.specs.Engineer.{over, tooShort}
 use Rattle.reading.specs.Layout.{replyWidths, replyLength, dayReplyWidths, dayReplyLength}
 use Rattle.samples.specs.Samples.{samplesOf}
 use Rattle.state.specs.declared.State.{State}
-use Rattle.state.specs.State.{ValidState}
-use Rattle.image.specs.declared.Acceptance.{Acceptance}
-use Rattle.image.specs.Image.{stateAt, restoredTo}
+use Rattle.image.specs.Image.{stateAt}
 use Rattle.logger.specs.Calls.{loggerCalls}
 use Rattle.day_count.specs.declared.DayCount.{DayCount}
 use Rattle.day_count.specs.Days.{dayCounted}
@@ -116,9 +113,3 @@ countedBy (accepted day) reply = if dayReplyLength ≤ᵇ length reply then coun
 
 unfoldable pub counted : List ℕ → List ℕ → ℕ → Bool → ℕ → List ℕ → CountedDay
 counted settings records z above day reply = countedBy (dayCounted settings records z above day) reply
-
--- `resume`, which advance and try begin with: an image restored into a spare logger, whichever that is
-pub record Resumes (image : List ℕ) (st : State) (told : Acceptance) : Type 0 where
-  pub spare : State
-  pub restored : restoredTo st told ≡ loggerCalls .restore spare image
-  pub valid : ValidState st

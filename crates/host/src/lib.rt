@@ -1,28 +1,27 @@
-// The calls for a host program in C, on byte slices: begin and advance of 01, 02's trial and count per day. Each returns 0 or the number of the refusal.
+// The calls for a host program in C, on byte slices: begin and advance of 01, 02's trial, count per day and converter. Each returns 0 or the number of the
+// refusal.
 use day_count::Counted;
 use day_count::DayCount;
 use image::Acceptance;
 use logger::Fed;
 use logger::Logger;
-use logger::Resumed;
 use logger::Started;
 use reading::Told;
 use records::RECORD_LENGTH;
-use settings::Settings;
 ghost use mathlib.Core.Path.{_≡_};
 ghost use mathlib.Core.Bool.{not};
 ghost use Prim.Native.Nat.{_≤_, min};
 ghost use lib.ListN.{length};
 ghost use Rattle.octets.specs.Bytes.{row, total};
 ghost use Rattle.numbers.specs.Notation.{_≡ᵇ_};
-ghost use Rattle.settings.specs.Settings.{ValidSettings};
 ghost use Rattle.samples.specs.Samples.{samplesOf};
 ghost use Rattle.state.specs.State.{ValidState};
 ghost use Rattle.logger.specs.Logger.{fedTo};
 ghost use Rattle.logger.specs.Calls.{loggerCalls};
 ghost use Rattle.reading.specs.Engineer.{over};
-ghost use Rattle.reading.specs.Layout.{replyLength, dayReplyLength};
-ghost use Rattle.host.specs.Host.{begunTo, begun, Resumes, replied, advancedTo, advanced, blockTriedTo, blockTried, dayReplied, countedTo, counted};
+ghost use Rattle.reading.specs.Layout.{countWidth, earlierWidth, replyLength, dayReplyLength};
+ghost use Rattle.conversion.specs.Conversion.{convertedTo, recordsConverted, imageConverted};
+ghost use Rattle.host.specs.Host.{begunTo, begun, replied, advancedTo, advanced, blockTriedTo, blockTried, dayReplied, countedTo, counted};
 
 // A reply: taken, written, why.
 const REPLY_LENGTH: usize = 24;
@@ -36,31 +35,6 @@ const DAY_REPLY_WIDTHS: [u8; 4] = [8; 4];
 
 // How many samples are decoded at a time.
 const CHUNK: usize = 1024;
-
-// Settings that start accepts.
-fn plain_settings() -> Settings
-    ensures { λ r. ⌜ ValidSettings r ⌝ }
-{
-    Settings {
-        samples: Settings::SAMPLES_LEAST,
-        frequency: Settings::FREQUENCY_50,
-        declared: Settings::DECLARED_LEAST,
-        limit: Settings::LIMIT_LEAST,
-        reduction: 0,
-        interruption: Settings::INTERRUPTION_LEAST,
-        dip: 1,
-        swell: 2,
-        hysteresis: 0,
-    }
-}
-
-// The logger of an image, or the refusal: restored into a spare one, which nobody sees.
-fn resume(image: &[u8]) -> Resumed
-    ensures { λ r. ⌜ Resumes (now (image .entry)) (r .logger .state) (r .answer) ⌝ }
-{
-    let spare = Logger::fresh(plain_settings());
-    spare.restore(image)
-}
 
 // The next chunk of the samples that are left.
 fn chunk_of(left: usize) -> usize
@@ -171,7 +145,7 @@ pub extern "C" fn pq_advance(
     ensures { λ r. ⌜ advancedTo r (now (next .exit)) (now (records .exit)) (now (reply .exit))
         ≡ advanced (now (image .entry)) (now (samples .entry)) (now (next .entry)) (now (records .entry)) (now (reply .entry)) ⌝ }
 {
-    let resumed = resume(image);
+    let resumed = Logger::resume(image);
     let answer = resumed.answer;
     let logger = resumed.logger;
     match answer {
@@ -201,7 +175,7 @@ pub extern "C" fn pq_try(image: &[u8], samples: &[u8], scratch: &mut [u8], reply
     ensures { λ r. ⌜ blockTriedTo r (now (scratch .exit)) (now (reply .exit))
         ≡ blockTried (now (image .entry)) (now (samples .entry)) (now (scratch .entry)) (now (reply .entry)) ⌝ }
 {
-    let resumed = resume(image);
+    let resumed = Logger::resume(image);
     let answer = resumed.answer;
     let logger = resumed.logger;
     match answer {
@@ -245,4 +219,36 @@ pub extern "C" fn pq_count_day(
             0
         }
     }
+}
+
+// Records of the earlier edition as records of this one.
+#[no_mangle]
+pub extern "C" fn pq_convert_records(earlier: &[u8], records: &mut [u8]) -> u32
+    ensures { λ r. ⌜ convertedTo r (now (records .exit)) ≡ recordsConverted earlierWidth countWidth (now (earlier .entry)) (now (records .entry)) ⌝ }
+{
+    conversion::convert_records(earlier, records)
+}
+
+// And back.
+#[no_mangle]
+pub extern "C" fn pq_convert_records_back(records: &[u8], earlier: &mut [u8]) -> u32
+    ensures { λ r. ⌜ convertedTo r (now (earlier .exit)) ≡ recordsConverted countWidth earlierWidth (now (records .entry)) (now (earlier .entry)) ⌝ }
+{
+    conversion::convert_records_back(records, earlier)
+}
+
+// An image of the earlier edition as an image of this one.
+#[no_mangle]
+pub extern "C" fn pq_convert_image(earlier: &[u8], image: &mut [u8]) -> u32
+    ensures { λ r. ⌜ convertedTo r (now (image .exit)) ≡ imageConverted earlierWidth countWidth (now (earlier .entry)) (now (image .entry)) ⌝ }
+{
+    conversion::convert_image(earlier, image)
+}
+
+// And back.
+#[no_mangle]
+pub extern "C" fn pq_convert_image_back(image: &[u8], earlier: &mut [u8]) -> u32
+    ensures { λ r. ⌜ convertedTo r (now (earlier .exit)) ≡ imageConverted countWidth earlierWidth (now (image .entry)) (now (earlier .entry)) ⌝ }
+{
+    conversion::convert_image_back(image, earlier)
 }

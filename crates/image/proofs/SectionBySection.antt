@@ -14,16 +14,16 @@ use Rattle.numbers.specs.Rules.{Rule, passes}
 use Rattle.numbers.specs.RulesLaws.{holds}
 use Rattle.settings.specs.declared.Settings.{Settings}
 use Rattle.settings.specs.Settings.{windowLength, settingsOf, startRefusal, settingsRead}
-use Rattle.reading.specs.Layout.{places, tableLength, gathererLength, eventsLength, imageLength, gathererOffset, eventsOffset}
+use Rattle.reading.specs.Layout.{countWidth, places, tableLength, gathererLength, eventsLength, imageLength, gathererOffset, eventsOffset}
 use Rattle.reading.specs.Image.{table}
-use Rattle.reading.specs.Restore.{part, sameBytes, gathererRule, valuesRule, eventsRule, settingsPart, gathererIn, valuesIn, eventsIn, restoreRefusal}
+use Rattle.reading.specs.Restore.{part, sameBytes, gathererRule, valuesRule, eventsRule, settingsPart, gathererIn, valuesIn, eventsIn, restoreRefusalWith, restoreRefusal}
 use Rattle.reading.specs.Calls.{Restoration}
 use Rattle.rms.specs.declared.Gatherer.{Gatherer}
 use Rattle.detection.specs.declared.Detector.{Detector}
 use Rattle.state.specs.declared.State.{State}
 use Rattle.state.specs.State.{stateWith}
 use Rattle.bodies.specs.Bodies.{gathererFrom, detectorFrom, tableRefusal, bodyRefusal, gathererAnswer, detectorAnswer}
-use Rattle.image.specs.Image.{stateAt, refusedBy, restoredFrom, restoredBy}
+use Rattle.image.specs.Image.{stateAtWith, stateAt, refusedBy, restoredFrom, restoredBy}
 
 module _ (old : State) (b : List ℕ) where
   abbrev pub by-detector : Settings → Gatherer → Answered Detector → Restoration State
@@ -69,7 +69,7 @@ module _ (old : State) (b : List ℕ) where
   eventsBody = eventsRule n (getD (valuesIn b) 0 0) (eventsIn b)
 
   detector-told : (t : Bool) → left (refuse 11 unless t then 0) ≡ by-detector s gatherer (answered (refuse 11 unless t then 0) (detectorFrom (getD (valuesIn b) 0 0) (eventsIn b)))
-  unfolding stateAt
+  unfolding stateAtWith
   detector-told true = refl
   detector-told false = refl
 
@@ -99,10 +99,10 @@ module _ (old : State) (b : List ℕ) where
   table-told true = settings-told (startRefusal (settingsPart b))
   table-told false = refl
 
-  pub right-length : length b ≡ imageLength → restoredBy old b ≡ by-table (tableRefusal (part 0 tableLength b))
-  unfolding restoredBy restoreRefusal
+  pub right-length : length b ≡ imageLength → restoredBy old b ≡ by-table (tableRefusal countWidth (part 0 tableLength b))
+  unfolding restoredBy restoreRefusalWith
   right-length size = ap left (refuse-passes 8 _ (eq-eqb (length b) imageLength size)) ∙ table-told (sameBytes (part 0 tableLength b) table)
 
   pub other-length : (length b ≡ imageLength → ⊥) → restoredBy old b ≡ refusedBy 8 old
-  unfolding restoredBy restoreRefusal
+  unfolding restoredBy restoreRefusalWith
   other-length h = ap left (refuse-fails 8 _ (ne-eqb (length b) imageLength h))

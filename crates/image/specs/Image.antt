@@ -7,9 +7,9 @@ use Rattle.numbers.specs.Notation.{if_then_else_}
 use Rattle.numbers.specs.Answers.{Answered}
 use Rattle.numbers.specs.Answers.Answered.{accepted, refused}
 use Rattle.settings.specs.Settings.{settingsBytes, settingsOf}
-use Rattle.reading.specs.Layout.{places, gathererWidths, valuesWidths, eventsWidths}
+use Rattle.reading.specs.Layout.{countWidth, places, gathererWidths, valuesWidths, eventsWidths}
 use Rattle.reading.specs.Image.{table}
-use Rattle.reading.specs.Restore.{settingsPart, gathererIn, valuesIn, eventsIn, restoreRefusal}
+use Rattle.reading.specs.Restore.{settingsPart, gathererIn, valuesInWith, eventsInWith, restoreRefusal}
 use Rattle.reading.specs.Calls.{Restoration}
 use Rattle.reading.specs.Engineer.{over, tooShort}
 use Rattle.rms.specs.Gather.{gathererRow}
@@ -32,11 +32,15 @@ eventsBody st = row eventsWidths (detectorRow (st .detector))
 unfoldable pub imageBytes : State → List ℕ
 imageBytes st = table ++ (settingsBytes (st .settings) ++ (gathererBody st ++ (valuesBody st ++ eventsBody st)))
 
-unfoldable pub stateAt : List ℕ → State
-stateAt b =
-    let values = valuesIn b in
-    stateWith (settingsOf (settingsPart b)) (gathererFrom (gathererIn b)) (detectorFrom (getD values 0 0) (eventsIn b))
+-- the state that the numbers of an image are, in the edition whose counts have c bytes
+unfoldable pub stateAtWith : ℕ → List ℕ → State
+stateAtWith c b =
+    let values = valuesInWith c b in
+    stateWith (settingsOf (settingsPart b)) (gathererFrom (gathererIn b)) (detectorFrom (getD values 0 0) (eventsInWith c b))
     (take places (drop 1 values)) (drop (1 + places) values)
+
+abbrev pub stateAt : List ℕ → State
+stateAt b = stateAtWith countWidth b
 
 -- save: 7 for a shorter buffer, which stays; else the image, and the rest as it was
 unfoldable pub saveAnswer : List ℕ → ℕ

@@ -15,12 +15,12 @@ use Rattle.reading.specs.Clipping.{marksOf}
 use Rattle.reading.specs.Thresholds.{standsSince, magnitude}
 use Rattle.reading.specs.Changes.{Signal, signal}
 use Rattle.reading.specs.Changes.Signal.{filling, unsettled, steady, changing}
-use Rattle.reading.specs.Image.{table, gathererBytes, valuesBytes, phaseNumber, changeNumbers, changeMark, standingNumbers, standingMark, imageOf}
-use Rattle.reading.specs.Layout.{eventsWidths}
+use Rattle.reading.specs.Image.{table, gathererBytes, valuesNumbers, phaseNumber, changeNumbers, changeMark, standingNumbers, standingMark, eventsNumbers, imageOf}
+use Rattle.reading.specs.Layout.{valuesWidths, eventsWidths}
 use Rattle.threshold.specs.Standing.{magnitudeSince, standingOf}
 use Rattle.rvc.specs.Phase.{phaseOn, phaseRow, phaseMark}
 use Rattle.state.specs.State.{stateOf}
-use Rattle.bodies.specs.Bodies.{standingRow}
+use Rattle.bodies.specs.Bodies.{standingRow, detectorRow}
 use Rattle.image.specs.Image.{imageBytes}
 
 -- the numbers of a phase and of an event, and their marks
@@ -44,9 +44,9 @@ module _ (s : Settings) (hist ms : List ℕ) where
       go zero = refl
       go (suc a) = rw (eqb·suc-zero a)
 
-pub image-of-state : (s : Settings) (rec : List ℤ) → imageBytes (stateOf s rec) ≡ imageOf s rec
-unfolding imageBytes
-image-of-state s rec =
+-- the numbers of body 4
+pub events-of-state : (s : Settings) (rec : List ℤ) → detectorRow (stateOf s rec .detector) ≡ eventsNumbers s (values s rec) (marksOf s rec)
+events-of-state s rec =
     let hist = values s rec in
     let ms = marksOf s rec in
     let phase = phase-numbers s hist ms (signal s hist) in
@@ -54,6 +54,11 @@ image-of-state s rec =
     let swell = standing-numbers s hist ms Swell in
     let interruption = standing-numbers s hist ms Interruption in
     let change-mark = phase-mark s hist ms (signal s hist) in
-    λ i. table ++ (settingsBytes s ++ (gathererBytes s rec ++ (valuesBytes s hist ms
-    ++ row eventsWidths (phase i ++ (dip i ++ (swell i ++ (interruption i
-    ++ (standingMark s Dip hist ms ∷ standingMark s Swell hist ms ∷ standingMark s Interruption hist ms ∷ change-mark i ∷ []))))))))
+    λ i. phase i ++ (dip i ++ (swell i ++ (interruption i
+    ++ (standingMark s Dip hist ms ∷ standingMark s Swell hist ms ∷ standingMark s Interruption hist ms ∷ change-mark i ∷ []))))
+
+pub image-of-state : (s : Settings) (rec : List ℤ) → imageBytes (stateOf s rec) ≡ imageOf s rec
+unfolding imageBytes
+image-of-state s rec =
+    λ i. table
+    ++ (settingsBytes s ++ (gathererBytes s rec ++ (row valuesWidths (valuesNumbers s (values s rec) (marksOf s rec)) ++ row eventsWidths (events-of-state s rec i))))

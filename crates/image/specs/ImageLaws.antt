@@ -5,35 +5,33 @@ use Prim.Native.Nat.{ℕ, zero, suc, _+_, _≤_}
 use native.Mathlib.Omega.{arith}
 use lib.ListN.{length, take, drop, getD, length-append, length-take, length-drop}
 use lib.Seq.{take-at, drop-at}
-use borrow.Author.Tests.{eqb-true, eq-eqb}
 use Rattle.octets.specs.Bytes.{Bytes, row, numbersIn, total}
 use Rattle.octets.specs.BytesLaws.{bytes-take, bytes-drop}
-use Rattle.octets.specs.RowLaws.{length-row, numbersIn-row, row-numbersIn, numbersIn-fit}
-use Rattle.numbers.specs.Notation.{_≡ᵇ_, flag}
-use Rattle.numbers.specs.NotationLaws.{refuse-passes, refuse-none}
+use Rattle.octets.specs.RowLaws.{length-row, numbersIn-row, row-numbersIn}
+use Rattle.numbers.specs.Notation.{flag}
 use Rattle.numbers.specs.Answers.{answered}
 use Rattle.numbers.specs.Answers.Answered.{accepted}
-use Rattle.numbers.specs.Rules.{passes, Holds}
-use Rattle.numbers.specs.RulesLaws.{holds, passed}
+use Rattle.numbers.specs.Rules.{Holds}
 use Rattle.settings.specs.declared.Settings.{Settings}
 use Rattle.settings.specs.Settings.{windowLength, settingsLength, settingsBytes, settingsOf, startRefusal, settingsRead}
 use Rattle.settings.specs.SettingsLaws.{windowLength-most, settingsOf-settingsBytes, settingsRead-settingsBytes, read-accepted, settingsBytes-settingsRead}
-use Rattle.reading.specs.Layout.{tableLength, places, gathererWidths, valuesWidths, valuesLength, eventsWidths, eventsLength, imageLength}
+use Rattle.reading.specs.Layout.{countWidth, places, gathererWidths, valuesWidths, valuesLength, eventsWidths, eventsLength, imageLength}
 use Rattle.reading.specs.Layout.{settingsOffset, gathererOffset, valuesOffset, eventsOffset}
 use Rattle.reading.specs.Image.{table}
-use Rattle.reading.specs.Restore.{part, sameBytes, gathererRule, wholeRule, valuesRule, eventsRule, settingsPart, gathererIn, valuesIn, eventsIn, restoreRefusal}
+use Rattle.reading.specs.Restore.{part, gathererRule, wholeRule, valuesRule, settingsPart, gathererIn, valuesIn, eventsIn, restoreRefusal}
 use Rattle.rms.specs.Gather.{gathererRow}
 use Rattle.state.specs.declared.State.{State}
 use Rattle.state.specs.State.{stateWith, ValidState}
 use Rattle.bodies.specs.Bodies.{detectorRow, gathererFrom, detectorFrom}
-use Rattle.bodies.specs.BodiesLaws.{same-equal, gatherer-fits, gatherer-back, gatherer-again, values-fit}
+use Rattle.bodies.specs.BodiesLaws.{gatherer-fits, gatherer-back, gatherer-again, values-fit}
 use Rattle.bodies.specs.BodiesLaws.{Again, length-detectorRow, detector-fits, detector-back, detector-allowed, detector-again}
-use Rattle.image.specs.Image.{gathererBody, valuesBody, eventsBody, imageBytes, stateAt, refusedBy, restoredFrom, restoredBy}
+use Rattle.image.specs.Image.{gathererBody, valuesBody, eventsBody, imageBytes, stateAtWith, stateAt, refusedBy, restoredFrom, restoredBy}
 use Rattle.image.specs.SectionsLaws.{Sections, sections-are, sections-join}
+use Rattle.image.specs.PassedLaws.{allowed-as, Passed, passes-all, accepts-passed}
 
 -- bytes with the sections of a state
 abbrev SectionsOf : State → List ℕ → Type 0
-SectionsOf st b = Sections b table (settingsBytes (st .settings)) (gathererBody st) (valuesBody st) (eventsBody st)
+SectionsOf st b = Sections countWidth b table (settingsBytes (st .settings)) (gathererBody st) (valuesBody st) (eventsBody st)
 
 -- the sections of an image, and their lengths
 module _ (st : State) (size : length (st .window) ≡ 120) (marks-size : length (st .marks) ≡ 120) where
@@ -49,7 +47,7 @@ module _ (st : State) (size : length (st .window) ≡ 120) (marks-size : length 
 
   image-sections : SectionsOf st (imageBytes st)
   unfolding imageBytes
-  image-sections = sections-are (imageBytes st) table (settingsBytes (st .settings)) (gathererBody st) _ _ refl refl refl refl values-long events-long
+  image-sections = sections-are countWidth (imageBytes st) table (settingsBytes (st .settings)) (gathererBody st) _ _ refl refl refl refl values-long events-long
 
 -- bytes that are refused
 pub restoredBy-refused : (old : State) (b : List ℕ) → (restoreRefusal b ≡ 0 → ⊥) → restoredBy old b ≡ refusedBy (restoreRefusal b) old
@@ -87,7 +85,7 @@ module _ (st : State) (valid : ValidState st) where
   values-are =
       ap (numbersIn valuesWidths) (sections .values-part)
       ∙ numbersIn-row valuesWidths (v ∷ (st .window ++ st .marks))
-      (values-fit n v (st .window) (st .marks) (valid .count-le) (valid .window-valid) (valid .marks-valid))
+      (values-fit countWidth n v (st .window) (st .marks) (omega (arith, valid .count-le)) (valid .window-valid) (valid .marks-valid))
 
   window-is : take places (st .window ++ st .marks) ≡ st .window
   window-is = take-at (st .window) (st .marks) places (valid .window-valid .size)
@@ -96,12 +94,12 @@ module _ (st : State) (valid : ValidState st) where
   marks-are = drop-at (st .window) (st .marks) places (valid .window-valid .size)
 
   values-allowed : Holds (valuesRule n (flag (st .gatherer .whole)) (v ∷ (st .window ++ st .marks)))
-  values-allowed = rw (window-is, marks-are) (valid .none-whole, (valid .window-valid .allowed, valid .marks-valid .allowed))
+  values-allowed = rw (window-is, marks-are) (valid .count-le, (valid .none-whole, (valid .window-valid .allowed, valid .marks-valid .allowed)))
 
   events-are : eventsIn saved ≡ detectorRow (st .detector)
   events-are =
       ap (numbersIn eventsWidths) (sections .events-part)
-      ∙ numbersIn-row eventsWidths (detectorRow (st .detector)) (detector-fits (st .detector) n (valid .detector-valid) (windowLength-most (st .settings)) (valid .count-le))
+      ∙ numbersIn-row eventsWidths (detectorRow (st .detector)) (detector-fits (st .detector) n (valid .detector-valid) countWidth (windowLength-most (st .settings)) (omega (arith, valid .count-le)))
 
   start-none : startRefusal (settingsPart saved) ≡ 0
   start-none =
@@ -109,22 +107,19 @@ module _ (st : State) (valid : ValidState st) where
       ∙ read-accepted (settingsBytes (st .settings)) (st .settings) (settingsRead-settingsBytes (st .settings) (valid .settings-valid)) .none
 
   pub imageBytes-accepted : restoreRefusal (imageBytes st) ≡ 0
-  unfolding restoreRefusal
-  imageBytes-accepted =
-      refuse-passes 8 _ (eq-eqb (length saved) imageLength (length-imageBytes st (valid .window-valid .size) (valid .marks-valid .size)))
-      ∙ refuse-passes 9 _ (ap (λ (l : List ℕ). sameBytes l table) (sections .contents-part))
-      ∙ refuse-passes 10 _ (eq-eqb (startRefusal (settingsPart saved)) 0 start-none)
-      ∙ refuse-passes 11 _
-      ((λ i. passes (gathererRule (settings-are i .samples) (gatherer-is i))) ∙ passed (gathererRule (st .settings .samples) (gathererRow (st .gatherer))) (valid .gatherer-valid))
-      ∙ refuse-passes 11 _
-      ((λ i. passes (valuesRule (windowLength (settings-are i)) (getD (gatherer-is i) 3 0) (values-are i)))
-      ∙ passed (valuesRule n (flag (st .gatherer .whole)) (v ∷ (st .window ++ st .marks))) values-allowed)
-      ∙ refuse-passes 11 _
-      ((λ i. passes (eventsRule (windowLength (settings-are i)) (getD (values-are i) 0 0) (events-are i)))
-      ∙ passed (eventsRule n v (detectorRow (st .detector))) (detector-allowed (st .detector) n (valid .detector-valid)))
+  imageBytes-accepted = accepts-passed countWidth saved (record {
+    size = length-imageBytes st (valid .window-valid .size) (valid .marks-valid .size);
+    contents = sections .contents-part;
+    start = start-none;
+    allowed = allowed-as (sym settings-are) (sym gatherer-is) (sym values-are) (sym events-are) (record {
+      gatherer-allowed = valid .gatherer-valid;
+      values-allowed = values-allowed;
+      events-allowed = detector-allowed (st .detector) n (valid .detector-valid);
+    });
+  })
 
   pub stateAt-imageBytes : stateAt (imageBytes st) ≡ st
-  unfolding stateAt
+  unfolding stateAtWith
   stateAt-imageBytes =
       (λ i. stateWith (settings-are i) (gathererFrom (gatherer-is i)) (detectorFrom (getD (values-are i) 0 0) (events-are i))
       (take places (drop 1 (values-are i))) (drop (1 + places) (values-are i)))
@@ -134,45 +129,13 @@ module _ (st : State) (valid : ValidState st) where
   unfolding restoredBy
   restoredBy-saved old = λ i. restoredFrom (imageBytes-accepted i) old (stateAt-imageBytes i)
 
--- what accepted bytes have passed
-record Passed (b : List ℕ) (s : Settings) : Type 0 where
-  size : length b ≡ imageLength
-  contents : part 0 tableLength b ≡ table
-  start : startRefusal (settingsPart b) ≡ 0
-  gatherer : Holds (gathererRule (s .samples) (gathererIn b))
-  values : Holds (valuesRule (windowLength s) (getD (gathererIn b) 3 0) (valuesIn b))
-  events : Holds (eventsRule (windowLength s) (getD (valuesIn b) 0 0) (eventsIn b))
-
-passes-all : (b : List ℕ) → restoreRefusal b ≡ 0 → Passed b (settingsOf (settingsPart b))
-unfolding restoreRefusal
-passes-all b e =
-    let s = settingsOf (settingsPart b) in
-    let n = windowLength s in
-    let gatherer = gathererRule (s .samples) (gathererIn b) in
-    let values = valuesRule n (getD (gathererIn b) 3 0) (valuesIn b) in
-    let events = eventsRule n (getD (valuesIn b) 0 0) (eventsIn b) in
-    let r8 = refuse-none 8 (length b ≡ᵇ imageLength) _ (omega arith) e in
-    let r9 = refuse-none 9 (sameBytes (part 0 tableLength b) table) _ (omega arith) (r8 .1) in
-    let r10 = refuse-none 10 (startRefusal (settingsPart b) ≡ᵇ 0) _ (omega arith) (r9 .1) in
-    let r11 = refuse-none 11 (passes gatherer) _ (omega arith) (r10 .1) in
-    let r12 = refuse-none 11 (passes values) _ (omega arith) (r11 .1) in
-    let r13 = refuse-none 11 (passes events) 0 (omega arith) (r12 .1) in
-    record {
-      size = eqb-true (length b) imageLength (r8 .0);
-      contents = same-equal (part 0 tableLength b) table (r9 .0);
-      start = eqb-true (startRefusal (settingsPart b)) 0 (r10 .0);
-      gatherer = holds gatherer (r11 .0);
-      values = holds values (r12 .0);
-      events = holds events (r13 .0);
-    }
-
 -- bytes → state → bytes
 module _ (b : List ℕ) (are : Bytes b) (accepted-b : restoreRefusal b ≡ 0) where
   abbrev s : Settings
   s = settingsOf (settingsPart b)
 
-  ok : Passed b s
-  ok = passes-all b accepted-b
+  ok : Passed countWidth b
+  ok = passes-all countWidth b accepted-b
 
   part-bytes : (offset n : ℕ) → Bytes (part offset n b)
   part-bytes offset n = bytes-take n (drop offset b) (bytes-drop offset b are)
@@ -186,27 +149,27 @@ module _ (b : List ℕ) (are : Bytes b) (accepted-b : restoreRefusal b ≡ 0) wh
 
   -- each mark is 0 or 1
   gatherer-row : gathererRow (gathererFrom (gathererIn b)) ≡ gathererIn b
-  gatherer-row = let rest = ok .gatherer .1 .1 .1 in gatherer-again _ _ _ _ _ _ (rest .0) (rest .1 .1 .0 .0) (rest .1 .1 .1 .0)
+  gatherer-row = let rest = ok .allowed .gatherer-allowed .1 .1 .1 in gatherer-again _ _ _ _ _ _ (rest .0) (rest .1 .1 .0 .0) (rest .1 .1 .1 .0)
 
   detector-row : Again (windowLength s) (getD (valuesIn b) 0 0) (eventsIn b)
-  detector-row = detector-again (windowLength s) _ (part eventsOffset eventsLength b) (ok .events)
+  detector-row = detector-again (windowLength s) _ (part eventsOffset eventsLength b) (ok .allowed .events-allowed)
 
   pub stateAt-valid : ValidState (stateAt b)
-  unfolding stateAt
+  unfolding stateAtWith
   stateAt-valid = record {
     settings-valid = read-accepted (settingsPart b) s settings-read .valid;
-    gatherer-valid = subst (λ (ns : List ℕ). Holds (gathererRule (s .samples) ns)) (sym gatherer-row) (ok .gatherer);
+    gatherer-valid = subst (λ (ns : List ℕ). Holds (gathererRule (s .samples) ns)) (sym gatherer-row) (ok .allowed .gatherer-allowed);
     detector-valid = detector-row .valid;
-    window-valid = record { size = refl; allowed = ok .values .1 .0 };
-    marks-valid = record { size = refl; allowed = ok .values .1 .1 };
-    count-le = let h = numbersIn-fit valuesWidths (part valuesOffset valuesLength b) (part-bytes valuesOffset valuesLength) .0 in omega arith;
-    none-whole = subst (λ (ns : List ℕ). Holds (wholeRule (getD ns 3 0) (getD (valuesIn b) 0 0))) (sym gatherer-row) (ok .values .0);
+    window-valid = record { size = refl; allowed = ok .allowed .values-allowed .1 .1 .0 };
+    marks-valid = record { size = refl; allowed = ok .allowed .values-allowed .1 .1 .1 };
+    count-le = ok .allowed .values-allowed .0;
+    none-whole = subst (λ (ns : List ℕ). Holds (wholeRule (getD ns 3 0) (getD (valuesIn b) 0 0))) (sym gatherer-row) (ok .allowed .values-allowed .1 .0);
   }
 
   pub imageBytes-stateAt : imageBytes (stateAt b) ≡ b
-  unfolding imageBytes stateAt
+  unfolding imageBytes stateAtWith
   imageBytes-stateAt =
-      sections-join b table (settingsBytes s) _ _ _ (ok .size)
+      sections-join countWidth b table (settingsBytes s) _ _ _ (ok .size)
       (record {
         contents-part = ok .contents;
         settings-part = sym (settingsBytes-settingsRead (settingsPart b) (part-bytes settingsOffset settingsLength) s settings-read);

@@ -1,4 +1,5 @@
 pub mod Image
 pub mod SectionsLaws
+pub mod PassedLaws
 pub mod ImageLaws
 pub mod ImageFollows

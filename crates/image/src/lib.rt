@@ -1,4 +1,5 @@
 // The image of a logger's state: a table of contents and four bodies, each in its own part.
+use bodies::COUNT_WIDTH;
 use bodies::DetectorRead;
 use bodies::EVENTS_AT;
 use bodies::GATHERER_AT;
@@ -48,7 +49,7 @@ pub fn save(state: State, image: &mut [u8]) -> u32
     let settings = state.settings;
     let gatherer = state.gatherer;
     let detector = state.detector;
-    bodies::put_table(&mut image[0..SETTINGS_AT]);
+    bodies::put_table(&mut image[0..SETTINGS_AT], COUNT_WIDTH as u64);
     settings.write(&mut image[SETTINGS_AT..GATHERER_AT]);
     bodies::put_gatherer(&mut image[GATHERER_AT..VALUES_AT], gatherer);
     bodies::put_values(
@@ -77,7 +78,7 @@ pub fn restore(old: State, bytes: &[u8]) -> Restored
     if bytes.len() != IMAGE_LENGTH {
         return refused(old, 8);
     }
-    let Verdict::Good = bodies::read_table(&bytes[0..SETTINGS_AT]) else {
+    let Verdict::Good = bodies::read_table(&bytes[0..SETTINGS_AT], COUNT_WIDTH as u64) else {
         return refused(old, 9);
     };
     let SettingsRead::Read(settings) = Settings::from_bytes(&bytes[SETTINGS_AT..GATHERER_AT]) else {

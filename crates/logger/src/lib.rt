@@ -11,9 +11,9 @@ ghost use Rattle.reading.specs.Calls.{trialTo};
 ghost use Rattle.state.specs.State.{fresh as freshOf, ValidState};
 ghost use Rattle.image.specs.Image.{restoredTo};
 ghost use Rattle.logger.specs.Logger.{startedTold, YieldedValid, fedTo, savedTo};
-ghost use Rattle.logger.specs.Calls.{loggerCalls};
+ghost use Rattle.logger.specs.Calls.{loggerCalls, spareSettings, Resumes};
 
-// A logger. Start, fresh and restore alone make one, and each call keeps it valid.
+// A logger. Start, fresh, restore and resume alone make one, and each call keeps it valid.
 pub struct Logger {
     state: State,
 }
@@ -129,5 +129,30 @@ impl Logger {
         let state = restored.state;
         let logger = Logger { state };
         Resumed { logger, answer }
+    }
+
+    // The logger of an image; or the refusal, and the spare logger that the image was to be restored into.
+    pub fn resume(image: &[u8]) -> Resumed
+        ensures { λ r. ⌜ Resumes (now (image .entry)) (r .logger .state) (r .answer) ⌝ }
+    {
+        let spare = Logger::fresh(spare_settings());
+        spare.restore(image)
+    }
+}
+
+// The least settings that start accepts.
+fn spare_settings() -> Settings
+    ensures { λ r. ⌜ (r ≡ spareSettings) × ValidSettings r ⌝ }
+{
+    Settings {
+        samples: Settings::SAMPLES_LEAST,
+        frequency: Settings::FREQUENCY_50,
+        declared: Settings::DECLARED_LEAST,
+        limit: Settings::LIMIT_LEAST,
+        reduction: 0,
+        interruption: Settings::INTERRUPTION_LEAST,
+        dip: 1,
+        swell: 2,
+        hysteresis: 0,
     }
 }

@@ -151,12 +151,12 @@ changing = repeated (150 * 8) 100 ++ repeated 19 80
 -- its image, byte by byte: the table; the settings; the gatherer; V, the window and its marks; the phase, the change, the three events and the marks
 abbrev pub changingImage : List ℕ
 changingImage =
-    1 ∷ 0 ∷ 0 ∷ 0 ∷ 32 ∷ 0 ∷ 36 ∷ 0 ∷ 2 ∷ 0 ∷ 0 ∷ 0 ∷ 68 ∷ 0 ∷ 32 ∷ 0 ∷ 3 ∷ 0 ∷ 0 ∷ 0 ∷ 100 ∷ 0 ∷ 92 ∷ 2 ∷ 4 ∷ 0 ∷ 0 ∷ 0 ∷ 192 ∷ 2 ∷ 60 ∷ 0
+    1 ∷ 0 ∷ 0 ∷ 0 ∷ 32 ∷ 0 ∷ 36 ∷ 0 ∷ 2 ∷ 0 ∷ 0 ∷ 0 ∷ 68 ∷ 0 ∷ 32 ∷ 0 ∷ 3 ∷ 0 ∷ 0 ∷ 0 ∷ 100 ∷ 0 ∷ 96 ∷ 2 ∷ 4 ∷ 0 ∷ 0 ∷ 0 ∷ 196 ∷ 2 ∷ 80 ∷ 0
     ∷ 8 ∷ 0 ∷ 0 ∷ 0 ∷ 50 ∷ 0 ∷ 0 ∷ 0 ∷ 64 ∷ 6 ∷ 0 ∷ 0 ∷ 44 ∷ 1 ∷ 0 ∷ 0 ∷ 150 ∷ 0 ∷ 0 ∷ 0 ∷ 244 ∷ 1 ∷ 0 ∷ 0 ∷ 40 ∷ 35 ∷ 0 ∷ 0 ∷ 248 ∷ 42 ∷ 0 ∷ 0 ∷ 200 ∷ 0 ∷ 0 ∷ 0
     ∷ 3 ∷ 0 ∷ 0 ∷ 0 ∷ 0 ∷ 75 ∷ 0 ∷ 0 ∷ 0 ∷ 0 ∷ 0 ∷ 0 ∷ 0 ∷ 200 ∷ 0 ∷ 0 ∷ 0 ∷ 0 ∷ 0 ∷ 0 ∷ 1 ∷ 0 ∷ 0 ∷ 0 ∷ 0 ∷ 0 ∷ 0 ∷ 0 ∷ 0 ∷ 0 ∷ 0 ∷ 0
-    ∷ 151 ∷ 0 ∷ 0 ∷ 0 ∷ (times 98 (64 ∷ 6 ∷ 0 ∷ 0 ∷ []) ++ (168 ∷ 5 ∷ 0 ∷ 0 ∷ 0 ∷ 5 ∷ 0 ∷ 0 ∷ (replicate 200 0
-    ++ (3 ∷ 0 ∷ 0 ∷ 0 ∷ 150 ∷ 0 ∷ 0 ∷ 0 ∷ 0 ∷ 113 ∷ 2 ∷ 0 ∷ 0 ∷ 0 ∷ 0 ∷ 0 ∷ 151 ∷ 0 ∷ 0 ∷ 0
-    ∷ 151 ∷ 0 ∷ 0 ∷ 0 ∷ 0 ∷ 5 ∷ 0 ∷ 0 ∷ replicate 32 0))))
+    ∷ 151 ∷ 0 ∷ 0 ∷ 0 ∷ 0 ∷ 0 ∷ 0 ∷ 0 ∷ (times 98 (64 ∷ 6 ∷ 0 ∷ 0 ∷ []) ++ (168 ∷ 5 ∷ 0 ∷ 0 ∷ 0 ∷ 5 ∷ 0 ∷ 0 ∷ (replicate 200 0
+    ++ (3 ∷ 0 ∷ 0 ∷ 0 ∷ 150 ∷ 0 ∷ 0 ∷ 0 ∷ 0 ∷ 0 ∷ 0 ∷ 0 ∷ 0 ∷ 113 ∷ 2 ∷ 0 ∷ 0 ∷ 0 ∷ 0 ∷ 0 ∷ 151 ∷ 0 ∷ 0 ∷ 0 ∷ 0 ∷ 0 ∷ 0 ∷ 0
+    ∷ 151 ∷ 0 ∷ 0 ∷ 0 ∷ 0 ∷ 0 ∷ 0 ∷ 0 ∷ 0 ∷ 5 ∷ 0 ∷ 0 ∷ replicate 40 0))))
 
 -- that image with a number of w bytes at an offset
 abbrev pub changed : ℕ → ℕ → ℕ → List ℕ
@@ -180,23 +180,30 @@ settingsIn =
     changed 32 4 8 ∷ changed 32 4 256 ∷ changed 36 4 60 ∷ changed 40 4 16 ∷ changed 40 4 524288 ∷ withoutH 50 ∷ changed 44 4 600 ∷ changed 48 4 299
     ∷ changed 52 4 1 ∷ changed 60 4 20000 ∷ changed 52 4 8800 ∷ changed 60 4 9401 ∷ []
 
--- the bodies: count, sum, last sum; 2 for whether there is a whole half-cycle, none with a last sum, none with V; a value, an unused place; phase 4, phase 0 with V ≥ N, a change
--- outside phase 3; k at N, k above V, A(k − 1), a difference with V < k + N, a stand before k, one after V; a start above V, a magnitude, a magnitude of none
+-- that image with V, k and the stand, and a difference
+abbrev pub far : ℕ → ℕ → ℕ → List ℕ
+far v k difference = sets (sets (sets (changed 100 8 v) 712 (bytesOf 8 k)) 728 (bytesOf 8 k)) 724 (bytesOf 4 difference)
+
+-- the bodies: count, sum, last sum; 2 for whether there is a whole half-cycle, none with a last sum, none with V; V above its end; a value, an unused place; phase 4, phase 0 with V ≥ N, a change
+-- outside phase 3; k at N, k above V, A(k − 1), a difference with V < k + N, a stand before k, one after V; a start above V, a magnitude, a magnitude of none; k and a start
+-- above V by their high bytes; a difference where k + N is beyond V's end
 abbrev pub bodiesOut : List (List ℕ)
 bodiesOut =
     changed 68 4 8 ∷ changed 72 8 (3 * 2 ^ 30 + 1) ∷ changed 80 8 (8 * 2 ^ 30 + 1) ∷ changed 88 4 2 ∷ changed 88 4 0 ∷ sets (changed 80 8 0) 88 (bytesOf 4 0)
-    ∷ changed 104 4 524289 ∷ changed 504 4 1
-    ∷ changed 704 4 4 ∷ changed 704 4 0 ∷ changed 704 4 2 ∷ changed 708 4 100 ∷ changed 708 4 152 ∷ changed 712 4 52428801 ∷ changed 716 4 1 ∷ changed 720 4 149 ∷ changed 720 4 152
-    ∷ changed 724 4 152 ∷ changed 728 4 524289 ∷ changed 736 4 1 ∷ []
+    ∷ changed 100 8 (2 ^ 63) ∷ changed 100 8 (2 ^ 64 - 1) ∷ changed 108 4 524289 ∷ changed 508 4 1
+    ∷ changed 708 4 4 ∷ changed 708 4 0 ∷ changed 708 4 2 ∷ changed 712 8 100 ∷ changed 712 8 152 ∷ changed 720 4 52428801 ∷ changed 724 4 1 ∷ changed 728 8 149 ∷ changed 728 8 152
+    ∷ changed 736 8 152 ∷ changed 744 4 524289 ∷ changed 756 4 1
+    ∷ changed 712 8 (2 ^ 32 + 150) ∷ changed 736 8 (2 ^ 32 + 151) ∷ far (2 ^ 63 - 1) (2 ^ 63 - 1) 1 ∷ []
 
 abbrev pub bodiesIn : List (List ℕ)
 bodiesIn =
     changed 68 4 7 ∷ changed 72 8 (3 * 2 ^ 30) ∷ changed 80 8 (8 * 2 ^ 30) ∷ changed 88 4 1
-    ∷ changed 104 4 524288 ∷ changed 500 4 0
-    ∷ changed 708 4 101 ∷ changed 708 4 151 ∷ changed 712 4 52428800 ∷ changed 716 4 0 ∷ changed 720 4 150 ∷ changed 720 4 0
-    ∷ changed 724 4 150 ∷ changed 728 4 524288 ∷ changed 728 4 0 ∷ []
+    ∷ changed 100 8 (2 ^ 63 - 1) ∷ changed 108 4 524288 ∷ changed 504 4 0
+    ∷ changed 712 8 101 ∷ changed 712 8 151 ∷ changed 720 4 52428800 ∷ changed 724 4 0 ∷ changed 728 8 150 ∷ changed 728 8 0
+    ∷ changed 736 8 150 ∷ changed 744 4 524288 ∷ changed 744 4 0
+    ∷ far (2 ^ 32 + 151) (2 ^ 32 + 150) 0 ∷ far (2 ^ 63 - 1) (2 ^ 63 - 1) 0 ∷ []
 
--- several numbers of 4 bytes, each at its offset
+-- several numbers, each by its first 4 bytes at its offset
 abbrev pub edited : List ℕ → List (ℕ × ℕ) → List ℕ
 edited b [] = b
 edited b ((offset, x) ∷ more) = sets (edited b more) offset (bytesOf 4 x)
@@ -206,32 +213,32 @@ abbrev pub withoutCount : ℕ → List ℕ
 withoutCount mark = edited (changed 72 8 0) ((68, 0) ∷ (92, mark) ∷ [])
 
 abbrev pub changedAt : ℕ → ℕ → ℕ → List ℕ
-changedAt v k mark = edited changingImage ((100, v) ∷ (708, k) ∷ (760, mark) ∷ [])
+changedAt v k mark = edited changingImage ((100, v) ∷ (712, k) ∷ (784, mark) ∷ [])
 
 abbrev pub settled : ℕ → List ℕ
-settled mark = edited changingImage ((704, 2) ∷ (708, 0) ∷ (712, 0) ∷ (720, 0) ∷ (760, mark) ∷ [])
+settled mark = edited changingImage ((708, 2) ∷ (712, 0) ∷ (720, 0) ∷ (728, 0) ∷ (784, mark) ∷ [])
 
 -- with start and mark of a dip, a swell, an interruption; the magnitude is 0
 abbrev pub dipAt : ℕ → ℕ → List ℕ
-dipAt start mark = edited changingImage ((724, start) ∷ (728, 0) ∷ (748, mark) ∷ [])
+dipAt start mark = edited changingImage ((736, start) ∷ (744, 0) ∷ (772, mark) ∷ [])
 
 abbrev pub swellAt : ℕ → ℕ → List ℕ
-swellAt start mark = edited changingImage ((732, start) ∷ (752, mark) ∷ [])
+swellAt start mark = edited changingImage ((748, start) ∷ (776, mark) ∷ [])
 
 abbrev pub interruptionAt : ℕ → ℕ → List ℕ
-interruptionAt start mark = edited changingImage ((740, start) ∷ (756, mark) ∷ [])
+interruptionAt start mark = edited changingImage ((760, start) ∷ (780, mark) ∷ [])
 
 -- the marks: 2 in each; 1 for a half-cycle in progress without a sample, a last half-cycle that is not there, a place that is not used, a dip, a swell and an interruption that
 -- do not stand, a change with V < k + N, none
 abbrev pub marksOut : List (List ℕ)
 marksOut =
-    changed 92 4 2 ∷ changed 96 4 2 ∷ changed 584 1 2 ∷ dipAt 151 2 ∷ swellAt 151 2 ∷ interruptionAt 151 2 ∷ changedAt 201 101 2
-    ∷ withoutCount 1 ∷ sets (imageOf q []) 96 (1 ∷ []) ∷ changed 684 1 1 ∷ dipAt 0 1 ∷ swellAt 0 1 ∷ interruptionAt 0 1 ∷ changedAt 200 101 1 ∷ settled 1 ∷ []
+    changed 92 4 2 ∷ changed 96 4 2 ∷ changed 588 1 2 ∷ dipAt 151 2 ∷ swellAt 151 2 ∷ interruptionAt 151 2 ∷ changedAt 201 101 2
+    ∷ withoutCount 1 ∷ sets (imageOf q []) 96 (1 ∷ []) ∷ changed 688 1 1 ∷ dipAt 0 1 ∷ swellAt 0 1 ∷ interruptionAt 0 1 ∷ changedAt 200 101 1 ∷ settled 1 ∷ []
 
 abbrev pub marksIn : List (List ℕ)
 marksIn =
-    changed 92 4 1 ∷ changed 96 4 1 ∷ changed 584 1 1 ∷ dipAt 151 1 ∷ swellAt 151 1 ∷ interruptionAt 151 1 ∷ changedAt 201 101 1
-    ∷ withoutCount 0 ∷ imageOf q [] ∷ changed 683 1 1 ∷ dipAt 0 0 ∷ swellAt 0 0 ∷ interruptionAt 0 0 ∷ changedAt 200 101 0 ∷ settled 0 ∷ []
+    changed 92 4 1 ∷ changed 96 4 1 ∷ changed 588 1 1 ∷ dipAt 151 1 ∷ swellAt 151 1 ∷ interruptionAt 151 1 ∷ changedAt 201 101 1
+    ∷ withoutCount 0 ∷ imageOf q [] ∷ changed 687 1 1 ∷ dipAt 0 0 ∷ swellAt 0 0 ∷ interruptionAt 0 0 ∷ changedAt 200 101 0 ∷ settled 0 ∷ []
 
 abbrev pub recordsOf : Settings → List ℤ → List Event
 recordsOf s rec = events s (values s rec)
@@ -289,6 +296,8 @@ pub record BenchReadings : Type 0 where
   -- 150 half-cycles of 100, then 103 of 96: due at value 252, RVC 151, 1, 6368, 6368; with T 393 still an event at 151; with T 394 none
   pub change-count : length (values q change) ≡ 252
   pub change-due : recordsOf q change ≡ record { kind = 4; start = 151; duration = 1; first = 6368; second = 6368 } ∷ []
+  pub change-bytes :
+      recordBytes (recordsAt q change 252) ≡ 4 ∷ 0 ∷ 0 ∷ 0 ∷ 151 ∷ 0 ∷ 0 ∷ 0 ∷ 0 ∷ 0 ∷ 0 ∷ 0 ∷ 1 ∷ 0 ∷ 0 ∷ 0 ∷ 0 ∷ 0 ∷ 0 ∷ 0 ∷ 224 ∷ 24 ∷ 0 ∷ 0 ∷ 224 ∷ 24 ∷ 0 ∷ 0 ∷ []
   pub change-not-before : recordsOf q (repeated (150 * 8) 100 ++ repeated (102 * 8) 96) ≡ []
   pub change-at-393 : recordsOf (qWith 8 393 150) change ≡ record { kind = 4; start = 151; duration = 1; first = 6368; second = 6368 } ∷ []
   pub none-at-394 : recordsOf (qWith 8 394 150) change ≡ []
@@ -314,23 +323,24 @@ pub record BenchReadings : Type 0 where
   pub interruption-before-change :
       events qOutage (stepTo 102 93 100)
       ≡ record { kind = 3; start = 1; duration = 129; first = 1488; second = 0 } ∷ record { kind = 4; start = 130; duration = 1; first = 11200; second = 11200 } ∷ []
-  -- after 130 half-cycles of 88 and two of 100 body 4 begins 3, 130, 140800, 0, 130; restore takes 0 in the place of the last, too, as the edition before has it
+  -- after 130 half-cycles of 88 and two of 100 body 4 begins 3, 130, 140800, 0, 130; restore takes 0 in the place of the last, too, as loggers without the rule of a stand at k − 1 wrote it
   pub stand-kept : take 5 (eventsIn (imageOf q (longDip 2))) ≡ 3 ∷ 130 ∷ 140800 ∷ 0 ∷ 130 ∷ []
-  pub no-stand-accepted : restoreRefusal (sets (imageOf q (longDip 2)) 720 (bytesOf 4 0)) ≡ 0
+  pub no-stand-accepted : restoreRefusal (sets (imageOf q (longDip 2)) 728 (bytesOf 8 0)) ≡ 0
   -- the four numbers after a swell, and after a dip that goes on; where a swell first stands later, at 132; and where none stood
   pub stands-kept :
       numbersAfter (stepTo 2 112 100) ∷ numbersAfter (stepTo 2 88 84) ∷ numbersAfter (valuesOf 1 120 ++ stepTo 2 88 100) ∷ numbersAfter (stepTo 2 100 96) ∷ []
       ≡ (130 ∷ 179200 ∷ 0 ∷ 130 ∷ []) ∷ (130 ∷ 140800 ∷ 0 ∷ 130 ∷ []) ∷ (130 ∷ 140800 ∷ 0 ∷ 130 ∷ []) ∷ (130 ∷ 160000 ∷ 0 ∷ 0 ∷ []) ∷ []
   -- the program's samples: dip 3, 3, 800, 0 and V 7, and the record's bytes; fed with no record room: 55 taken, why 1
   pub program-record : recordsOf q program ≡ record { kind = 1; start = 3; duration = 3; first = 800; second = 0 } ∷ []
-  pub program-bytes : recordBytes (records q program) ≡ 1 ∷ 0 ∷ 0 ∷ 0 ∷ 3 ∷ 0 ∷ 0 ∷ 0 ∷ 3 ∷ 0 ∷ 0 ∷ 0 ∷ 32 ∷ 3 ∷ 0 ∷ 0 ∷ 0 ∷ 0 ∷ 0 ∷ 0 ∷ []
+  pub program-bytes :
+      recordBytes (records q program) ≡ 1 ∷ 0 ∷ 0 ∷ 0 ∷ 3 ∷ 0 ∷ 0 ∷ 0 ∷ 0 ∷ 0 ∷ 0 ∷ 0 ∷ 3 ∷ 0 ∷ 0 ∷ 0 ∷ 0 ∷ 0 ∷ 0 ∷ 0 ∷ 32 ∷ 3 ∷ 0 ∷ 0 ∷ 0 ∷ 0 ∷ 0 ∷ 0 ∷ []
   pub program-count : length (values q program) ≡ 7
   pub program-without-room : answer q emptyDesk (feed program []) ≡ fed (record { taken = 55; written = 0; why = 1 }) []
-  -- 02's trial: of the program's samples, with no room it tells 55, 0, 1, with 19 bytes, too; then feed with room 64, 1, 0
+  -- 02's trial: of the program's samples, with no room it tells 55, 0, 1, with 27 bytes, too; then feed with room 64, 1, 0
   pub tried-then-fed :
-      answers q emptyDesk (trial program [] ∷ trial program (replicate 19 7) ∷ feed program (replicate recordLength 7) ∷ [])
+      answers q emptyDesk (trial program [] ∷ trial program (replicate 27 7) ∷ feed program (replicate recordLength 7) ∷ [])
       ≡ tried (record { taken = 55; written = 0; why = 1 }) []
-      ∷ tried (record { taken = 55; written = 0; why = 1 }) (replicate 19 7)
+      ∷ tried (record { taken = 55; written = 0; why = 1 }) (replicate 27 7)
       ∷ fed (record { taken = 64; written = 1; why = 0 }) (recordBytes (records q program)) ∷ []
   -- between two feeds, with five bytes more than a record: it tells what the second one tells, and V stays; of an empty block it tells 0, 0, 0
   pub tried-between :
@@ -352,7 +362,7 @@ pub record BenchReadings : Type 0 where
   -- a clipped sample in a dip marks its record; −32767 is not clipped, −32768 is
   pub clipped-dip : records (qLoud 400000) (flatTop (pos 32767)) ≡ record { event = record { kind = 1; start = 3; duration = 3; first = 266793; second = 0 }; clipped = true } ∷ []
   pub clipped-bytes :
-      recordBytes (records (qLoud 400000) (flatTop (pos 32767))) ≡ 1 ∷ 1 ∷ 0 ∷ 0 ∷ 3 ∷ 0 ∷ 0 ∷ 0 ∷ 3 ∷ 0 ∷ 0 ∷ 0 ∷ 41 ∷ 18 ∷ 4 ∷ 0 ∷ 0 ∷ 0 ∷ 0 ∷ 0 ∷ []
+      recordBytes (records (qLoud 400000) (flatTop (pos 32767))) ≡ 1 ∷ 1 ∷ 0 ∷ 0 ∷ 3 ∷ 0 ∷ 0 ∷ 0 ∷ 0 ∷ 0 ∷ 0 ∷ 0 ∷ 3 ∷ 0 ∷ 0 ∷ 0 ∷ 0 ∷ 0 ∷ 0 ∷ 0 ∷ 41 ∷ 18 ∷ 4 ∷ 0 ∷ 0 ∷ 0 ∷ 0 ∷ 0 ∷ []
   pub not-clipped : records (qLoud 400000) (flatTop (negsuc 32766)) ≡ record { event = record { kind = 1; start = 3; duration = 3; first = 266793; second = 0 }; clipped = false } ∷ []
   pub clipped-below : records (qLoud 400000) (flatTop (negsuc 32767)) ≡ record { event = record { kind = 1; start = 3; duration = 3; first = 266795; second = 0 }; clipped = true } ∷ []
   -- clipped values before its start or at b leave the dip's mark 0, one at its start or at b − 1 does not; so do those before k and after m − N of a change, and one at k or at
@@ -389,19 +399,19 @@ pub record BenchReadings : Type 0 where
   -- in a change a clipped value counts once it has left the window: value 151 at V = 251
   pub change-unmarked : changeMarkAfter 251 ≡ 0
   pub change-marked : changeMarkAfter 252 ≡ 1
-  -- a record, the settings, the image and the two replies: 20, 36, 764, 24 and 32 bytes; offset and length of each body
-  pub lengths : recordLength ∷ settingsLength ∷ imageLength ∷ replyLength ∷ dayReplyLength ∷ [] ≡ 20 ∷ 36 ∷ 764 ∷ 24 ∷ 32 ∷ []
+  -- a record, the settings, the image and the two replies: 28, 36, 788, 24 and 32 bytes; offset and length of each body
+  pub lengths : recordLength ∷ settingsLength ∷ imageLength ∷ replyLength ∷ dayReplyLength ∷ [] ≡ 28 ∷ 36 ∷ 788 ∷ 24 ∷ 32 ∷ []
   pub sections :
       settingsOffset ∷ settingsLength ∷ gathererOffset ∷ gathererLength ∷ valuesOffset ∷ valuesLength ∷ eventsOffset ∷ eventsLength ∷ []
-      ≡ 32 ∷ 36 ∷ 68 ∷ 32 ∷ 100 ∷ 604 ∷ 704 ∷ 60 ∷ []
+      ≡ 32 ∷ 36 ∷ 68 ∷ 32 ∷ 100 ∷ 608 ∷ 708 ∷ 80 ∷ []
   -- a whole image in a change with a dip standing, byte by byte; what restore refuses one rule away from it, and what it accepts beside that
   pub changing-image : imageOf q changing ≡ changingImage
   pub changing-accepted : restoreRefusal changingImage ≡ 0
-  pub lengths-refused : refusals ([] ∷ take 763 changingImage ∷ (changingImage ++ (0 ∷ [])) ∷ []) ≡ 8 ∷ 8 ∷ 8 ∷ []
-  pub table-refused : refusals (changed 0 4 2 ∷ changed 4 2 33 ∷ changed 30 2 61 ∷ []) ≡ 9 ∷ 9 ∷ 9 ∷ []
+  pub lengths-refused : refusals ([] ∷ take 787 changingImage ∷ (changingImage ++ (0 ∷ [])) ∷ []) ≡ 8 ∷ 8 ∷ 8 ∷ []
+  pub table-refused : refusals (changed 0 4 2 ∷ changed 4 2 33 ∷ changed 30 2 81 ∷ []) ≡ 9 ∷ 9 ∷ 9 ∷ []
   pub settings-refused : refusals settingsOut ≡ replicate 12 10
   pub settings-accepted : refusals settingsIn ≡ replicate 12 0
-  pub bodies-refused : refusals bodiesOut ≡ replicate 20 11
-  pub bodies-accepted : refusals bodiesIn ≡ replicate 15 0
+  pub bodies-refused : refusals bodiesOut ≡ replicate 25 11
+  pub bodies-accepted : refusals bodiesIn ≡ replicate 18 0
   pub marks-refused : refusals marksOut ≡ replicate 15 11
   pub marks-accepted : refusals marksIn ≡ replicate 15 0

@@ -8,8 +8,9 @@ use lib.Seq.{sets}
 use Rattle.octets.specs.Bytes.{bytesOf}
 use Rattle.settings.specs.Settings.{startRefusal, settingsRefusal}
 use Rattle.reading.specs.Values.{root, values}
+use Rattle.reading.specs.Records.{recordBytes, recordsAt}
 use Rattle.reading.specs.Image.{imageOf}
-use Rattle.reading.specs.Restore.{eventsIn, restoreRefusal}
+use Rattle.reading.specs.Restore.{eventsIn, restoreRefusalWith, restoreRefusal}
 use Rattle.reading.specs.Engineer.{readings}
 use Rattle.reading.specs.Bench.{BenchReadings, q, qWith, repeated, change, restless, unsettled, recordsOf, longDip, briefDip, qOutage}
 use Rattle.reading.specs.Bench.{changing, changingImage, changed, refusals, settingsOut, settingsIn, bodiesOut, bodiesIn, marksOut, marksIn}
@@ -27,6 +28,11 @@ change-has-252 = refl
 change-is-due : recordsOf q change ≡ record { kind = 4; start = 151; duration = 1; first = 6368; second = 6368 } ∷ []
 unfolding root
 change-is-due = refl
+
+change-bytes-are :
+    recordBytes (recordsAt q change 252) ≡ 4 ∷ 0 ∷ 0 ∷ 0 ∷ 151 ∷ 0 ∷ 0 ∷ 0 ∷ 0 ∷ 0 ∷ 0 ∷ 0 ∷ 1 ∷ 0 ∷ 0 ∷ 0 ∷ 0 ∷ 0 ∷ 0 ∷ 0 ∷ 224 ∷ 24 ∷ 0 ∷ 0 ∷ 224 ∷ 24 ∷ 0 ∷ 0 ∷ []
+unfolding root
+change-bytes-are = refl
 
 change-is-not-due-before : recordsOf q (repeated (150 * 8) 100 ++ repeated (102 * 8) 96) ≡ []
 unfolding root
@@ -98,43 +104,43 @@ changing-image-is = refl
 
 -- the refusals, with every test opened
 changing-is-accepted : restoreRefusal changingImage ≡ 0
-unfolding restoreRefusal startRefusal settingsRefusal
+unfolding restoreRefusalWith startRefusal settingsRefusal
 changing-is-accepted = refl
 
-no-stand-is-accepted : restoreRefusal (sets (imageOf q (longDip 2)) 720 (bytesOf 4 0)) ≡ 0
-unfolding root restoreRefusal startRefusal settingsRefusal
+no-stand-is-accepted : restoreRefusal (sets (imageOf q (longDip 2)) 728 (bytesOf 8 0)) ≡ 0
+unfolding root restoreRefusalWith startRefusal settingsRefusal
 no-stand-is-accepted = refl
 
-lengths-are-refused : refusals ([] ∷ take 763 changingImage ∷ (changingImage ++ (0 ∷ [])) ∷ []) ≡ 8 ∷ 8 ∷ 8 ∷ []
-unfolding restoreRefusal startRefusal settingsRefusal
+lengths-are-refused : refusals ([] ∷ take 787 changingImage ∷ (changingImage ++ (0 ∷ [])) ∷ []) ≡ 8 ∷ 8 ∷ 8 ∷ []
+unfolding restoreRefusalWith startRefusal settingsRefusal
 lengths-are-refused = refl
 
-table-is-refused : refusals (changed 0 4 2 ∷ changed 4 2 33 ∷ changed 30 2 61 ∷ []) ≡ 9 ∷ 9 ∷ 9 ∷ []
-unfolding restoreRefusal startRefusal settingsRefusal
+table-is-refused : refusals (changed 0 4 2 ∷ changed 4 2 33 ∷ changed 30 2 81 ∷ []) ≡ 9 ∷ 9 ∷ 9 ∷ []
+unfolding restoreRefusalWith startRefusal settingsRefusal
 table-is-refused = refl
 
 settings-are-refused : refusals settingsOut ≡ replicate 12 10
-unfolding restoreRefusal startRefusal settingsRefusal
+unfolding restoreRefusalWith startRefusal settingsRefusal
 settings-are-refused = refl
 
 settings-are-accepted : refusals settingsIn ≡ replicate 12 0
-unfolding restoreRefusal startRefusal settingsRefusal
+unfolding restoreRefusalWith startRefusal settingsRefusal
 settings-are-accepted = refl
 
-bodies-are-refused : refusals bodiesOut ≡ replicate 20 11
-unfolding restoreRefusal startRefusal settingsRefusal
+bodies-are-refused : refusals bodiesOut ≡ replicate 25 11
+unfolding restoreRefusalWith startRefusal settingsRefusal
 bodies-are-refused = refl
 
-bodies-are-accepted : refusals bodiesIn ≡ replicate 15 0
-unfolding restoreRefusal startRefusal settingsRefusal
+bodies-are-accepted : refusals bodiesIn ≡ replicate 18 0
+unfolding restoreRefusalWith startRefusal settingsRefusal
 bodies-are-accepted = refl
 
 marks-are-refused : refusals marksOut ≡ replicate 15 11
-unfolding restoreRefusal startRefusal settingsRefusal
+unfolding restoreRefusalWith startRefusal settingsRefusal
 marks-are-refused = refl
 
 marks-are-accepted : refusals marksIn ≡ replicate 15 0
-unfolding restoreRefusal startRefusal settingsRefusal
+unfolding restoreRefusalWith startRefusal settingsRefusal
 marks-are-accepted = refl
 
 pub bench-holds : BenchReadings
@@ -165,6 +171,7 @@ bench-holds = record {
   interruption-at-6 = refl;
   change-count = change-has-252;
   change-due = change-is-due;
+  change-bytes = change-bytes-are;
   change-not-before = change-is-not-due-before;
   change-at-393 = change-is-at-393;
   none-at-394 = none-is-at-394;

@@ -10,9 +10,9 @@ use Rattle.reading.specs.declared.Record.{Record}
 use Rattle.reading.specs.Values.{valueCount}
 use Rattle.reading.specs.Records.{recordsAt}
 
--- V's end
+-- V's end, 2^63 − 1 (02, N7)
 abbrev pub lastValue : ℕ
-lastValue = 4294967295
+lastValue = 9223372036854775807
 
 -- the records due at the c values after value v
 abbrev pub dueAfter : Settings → List ℤ → ℕ → ℕ → List Record

@@ -1,10 +1,10 @@
--- 01, "The image" of a recording, with 02's marks and its recovery from a long dip.
+-- 01, "The image" of a recording, with 02's marks and its recovery from a long dip; of any edition, by the width c of its counts (02, N7).
 use mathlib.Core.Bool.{Bool, false}
 use mathlib.Core.List.{List, [], _∷_, _++_, reverse}
 use Prim.Native.Nat.{ℕ, zero, suc, _-_, _%_}
 use lib.ListN.{length, take, replicate}
 use lib.IntN.{ℤ}
-use Rattle.octets.specs.Bytes.{row}
+use Rattle.octets.specs.Bytes.{row, total}
 use Rattle.settings.specs.declared.Settings.{Settings}
 use Rattle.numbers.specs.Notation.{_<ᵇ_, _≡ᵇ_, if_then_else_, flag}
 use Rattle.settings.specs.Settings.{windowLength, settingsLength, settingsBytes}
@@ -15,17 +15,21 @@ use Rattle.reading.specs.Clipping.{anyClipped, halfClipped, marksOf, cli
 use Rattle.reading.specs.Thresholds.{standsSince, magnitude}
 use Rattle.reading.specs.Changes.{Signal, signal, firstStand, stoodBefore, sumBefore, greatestDifference}
 use Rattle.reading.specs.Changes.Signal.{filling, unsettled, steady, changing}
-use Rattle.reading.specs.Layout.{entryWidths, places, gathererWidths, gathererLength, valuesWidths, valuesLength, eventsWidths, eventsLength}
-use Rattle.reading.specs.Layout.{settingsOffset, gathererOffset, valuesOffset, eventsOffset}
+use Rattle.reading.specs.Layout.{countWidth, entryWidths, places, gathererWidths, gathererLength, valuesWidthsWith, eventsWidthsWith}
+use Rattle.reading.specs.Layout.{settingsOffset, gathererOffset, valuesOffset, eventsOffsetWith}
 
 -- the table of contents: code, offset and length of each body
 abbrev pub entry : ℕ → ℕ → ℕ → List ℕ
 entry code offset size = row entryWidths (code ∷ offset ∷ size ∷ [])
 
-abbrev pub table : List ℕ
-table =
+abbrev pub tableWith : ℕ → List ℕ
+tableWith c =
     entry 1 settingsOffset settingsLength
-    ++ (entry 2 gathererOffset gathererLength ++ (entry 3 valuesOffset valuesLength ++ entry 4 eventsOffset eventsLength))
+    ++ (entry 2 gathererOffset gathererLength
+    ++ (entry 3 valuesOffset (total (valuesWidthsWith c)) ++ entry 4 (eventsOffsetWith c) (total (eventsWidthsWith c))))
+
+abbrev pub table : List ℕ
+table = tableWith countWidth
 
 -- the sum of the last of h whole half-cycles, 0 without one
 abbrev pub lastSum : Settings → List ℤ → ℕ → ℕ
@@ -50,8 +54,8 @@ abbrev pub placesOf : ℕ → List ℕ → List ℕ
 placesOf n hist = let kept = reverse (take n hist) in kept ++ replicate (places - length kept) 0
 
 -- body 3: V, the places of the values, and those of their marks
-abbrev pub valuesBytes : Settings → List ℕ → List ℕ → List ℕ
-valuesBytes s hist ms = let n = windowLength s in row valuesWidths (length hist ∷ (placesOf n hist ++ placesOf n ms))
+abbrev pub valuesNumbers : Settings → List ℕ → List ℕ → List ℕ
+valuesNumbers s hist ms = let n = windowLength s in length hist ∷ (placesOf n hist ++ placesOf n ms)
 
 -- the phase's number: 0 fewer than N values, 1 never yet steady, 2 steady, 3 in a change
 abbrev pub phaseNumber : Signal → ℕ
@@ -90,16 +94,20 @@ changeMark s ms steady = 0
 changeMark s ms (changing k) = flag (clippedFrom s k ms)
 
 -- body 4: the phase, what a change carries, the dip, the swell and the interruption; and the marks of the three and of the change
-abbrev pub eventsBytes : Settings → List ℕ → List ℕ → List ℕ
-eventsBytes s hist ms =
+abbrev pub eventsNumbers : Settings → List ℕ → List ℕ → List ℕ
+eventsNumbers s hist ms =
     let now = signal s hist in
-    row eventsWidths
-    (phaseNumber now ∷ (changeNumbers s hist now ++ (standingNumbers s Dip hist ++ (standingNumbers s Swell hist ++ (standingNumbers s Interruption hist
-    ++ (standingMark s Dip hist ms ∷ standingMark s Swell hist ms ∷ standingMark s Interruption hist ms ∷ changeMark s ms now ∷ []))))))
+    phaseNumber now ∷ (changeNumbers s hist now ++ (standingNumbers s Dip hist ++ (standingNumbers s Swell hist ++ (standingNumbers s Interruption hist
+    ++ (standingMark s Dip hist ms ∷ standingMark s Swell hist ms ∷ standingMark s Interruption hist ms ∷ changeMark s ms now ∷ [])))))
 
 -- the image: the table, the settings and the three other bodies
-abbrev pub imageOf : Settings → List ℤ → List ℕ
-imageOf s rec =
+abbrev pub imageWith : ℕ → Settings → List ℤ → List ℕ
+imageWith c s rec =
     let hist = values s rec in
     let ms = marksOf s rec in
-    table ++ (settingsBytes s ++ (gathererBytes s rec ++ (valuesBytes s hist ms ++ eventsBytes s hist ms)))
+    tableWith c
+    ++ (settingsBytes s
+    ++ (gathererBytes s rec ++ (row (valuesWidthsWith c) (valuesNumbers s hist ms) ++ row (eventsWidthsWith c) (eventsNumbers s hist ms))))
+
+abbrev pub imageOf : Settings → List ℤ → List ℕ
+imageOf s rec = imageWith countWidth s rec

@@ -1,17 +1,30 @@
 -- 01, "The record", "The image" and the replies to a host: how wide each number is. Lengths and places follow as sums; the papers' figures, and the 32 bytes of
--- a day's reply, are `lengths` and `sections` of Bench.
+-- a day's reply, are `lengths` and `sections` of Bench. 02's N7: editions differ in the width of a count of values.
 use mathlib.Core.List.{List, [], _∷_, _++_}
 use Prim.Native.Nat.{ℕ, _+_, _*_}
 use lib.ListN.{replicate}
 use Rattle.octets.specs.Bytes.{total}
 use Rattle.settings.specs.Settings.{settingsLength}
 
--- a record: kind, mark, zero bytes, start, duration, first and second magnitude
+-- how wide a count of values is, in this edition and in the earlier one: V, k, the fourth number of a change, and every start and duration
+abbrev pub countWidth : ℕ
+countWidth = 8
+
+abbrev pub earlierWidth : ℕ
+earlierWidth = 4
+
+-- a record: kind, mark, zero bytes, start, duration, first and second magnitude; of any edition, by the width c of its counts
+abbrev pub recordWidthsWith : ℕ → List ℕ
+recordWidthsWith c = 1 ∷ 1 ∷ 2 ∷ c ∷ c ∷ 4 ∷ 4 ∷ []
+
 abbrev pub recordWidths : List ℕ
-recordWidths = 1 ∷ 1 ∷ 2 ∷ 4 ∷ 4 ∷ 4 ∷ 4 ∷ []
+recordWidths = recordWidthsWith countWidth
+
+abbrev pub recordLengthWith : ℕ → ℕ
+recordLengthWith c = total (recordWidthsWith c)
 
 abbrev pub recordLength : ℕ
-recordLength = total recordWidths
+recordLength = recordLengthWith countWidth
 
 -- an entry of the table of contents, one for each body: code, offset, length
 abbrev pub entryWidths : List ℕ
@@ -31,15 +44,21 @@ gathererLength = total gathererWidths
 abbrev pub places : ℕ
 places = 120
 
+abbrev pub valuesWidthsWith : ℕ → List ℕ
+valuesWidthsWith c = c ∷ (replicate places 4 ++ replicate places 1)
+
 abbrev pub valuesWidths : List ℕ
-valuesWidths = 4 ∷ (replicate places 4 ++ replicate places 1)
+valuesWidths = valuesWidthsWith countWidth
 
 abbrev pub valuesLength : ℕ
 valuesLength = total valuesWidths
 
 -- body 4: the phase and a change's four numbers; start and magnitude of dip, swell and interruption; the marks of dip, swell, interruption and change
+abbrev pub eventsWidthsWith : ℕ → List ℕ
+eventsWidthsWith c = 4 ∷ c ∷ 4 ∷ 4 ∷ c ∷ (c ∷ 4 ∷ c ∷ 4 ∷ c ∷ 4 ∷ []) ++ replicate 4 4
+
 abbrev pub eventsWidths : List ℕ
-eventsWidths = replicate 15 4
+eventsWidths = eventsWidthsWith countWidth
 
 abbrev pub eventsLength : ℕ
 eventsLength = total eventsWidths
@@ -54,11 +73,17 @@ gathererOffset = settingsOffset + settingsLength
 abbrev pub valuesOffset : ℕ
 valuesOffset = gathererOffset + gathererLength
 
+abbrev pub eventsOffsetWith : ℕ → ℕ
+eventsOffsetWith c = valuesOffset + total (valuesWidthsWith c)
+
 abbrev pub eventsOffset : ℕ
-eventsOffset = valuesOffset + valuesLength
+eventsOffset = eventsOffsetWith countWidth
+
+abbrev pub imageLengthWith : ℕ → ℕ
+imageLengthWith c = eventsOffsetWith c + total (eventsWidthsWith c)
 
 abbrev pub imageLength : ℕ
-imageLength = eventsOffset + eventsLength
+imageLength = imageLengthWith countWidth
 
 -- the reply of advance and of try: taken, written, why
 abbrev pub replyWidths : List ℕ

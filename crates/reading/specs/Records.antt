@@ -11,7 +11,7 @@ use Rattle.reading.specs.declared.Event.{Event}
 use Rattle.reading.specs.declared.Record.{Record}
 use Rattle.reading.specs.Values.{history}
 use Rattle.reading.specs.Clipping.{marks, recordOf}
-use Rattle.reading.specs.Layout.{recordWidths, recordLength}
+use Rattle.reading.specs.Layout.{countWidth, recordWidthsWith, recordWidths, recordLength}
 use Rattle.reading.specs.Thresholds.{thresholdDue}
 use Rattle.reading.specs.Changes.{changeDue}
 
@@ -19,10 +19,13 @@ use Rattle.reading.specs.Changes.{changeDue}
 abbrev pub recordNumbers : Record → List ℕ
 recordNumbers r = let e = r .event in e .kind ∷ flag (r .clipped) ∷ 0 ∷ e .start ∷ e .duration ∷ e .first ∷ e .second ∷ []
 
--- records in bytes, one behind the other
+-- records in bytes, one behind the other; of any edition, by the width of its counts
+abbrev pub recordBytesWith : ℕ → List Record → List ℕ
+recordBytesWith c [] = []
+recordBytesWith c (r ∷ rs) = row (recordWidthsWith c) (recordNumbers r) ++ recordBytesWith c rs
+
 abbrev pub recordBytes : List Record → List ℕ
-recordBytes [] = []
-recordBytes (r ∷ rs) = row recordWidths (recordNumbers r) ++ recordBytes rs
+recordBytes rs = recordBytesWith countWidth rs
 
 -- the event that a record's bytes tell
 abbrev pub eventFrom : List ℕ → Event

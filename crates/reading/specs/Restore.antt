@@ -1,17 +1,18 @@
 -- 01, "Restore": which bytes are refused. Each section is judged by itself and by what was read from those before it. Refusal 11's rules are said over the
--- numbers of a body, in their order there.
+-- numbers of a body, in their order there, and hold in every edition (02, N7), whose counts have c bytes.
 use mathlib.Core.Bool.{Bool, true, false, _&&_}
 use mathlib.Core.List.{List, [], _∷_}
 use Prim.Native.Nat.{ℕ, _+_, _*_, _^_, min}
 use lib.ListN.{length, take, drop, getD}
-use Rattle.octets.specs.Bytes.{numbersIn}
+use Rattle.octets.specs.Bytes.{numbersIn, total}
 use Rattle.numbers.specs.Notation.{_≡ᵇ_, refuse_unless_then_}
 use Rattle.numbers.specs.Rules.{Rule, passes}
 use Rattle.numbers.specs.Rules.Rule.{_≤ʳ_, _<ʳ_, _≡ʳ_, allUpTo, allZero, _and_, _implies_, _exactly-when_}
 use Rattle.settings.specs.Settings.{windowLength, settingsLength, settingsOf, startRefusal}
-use Rattle.reading.specs.Layout.{places, gathererWidths, gathererLength, valuesWidths, valuesLength, eventsWidths, eventsLength, tableLength, imageLength}
-use Rattle.reading.specs.Layout.{settingsOffset, gathererOffset, valuesOffset, eventsOffset}
-use Rattle.reading.specs.Image.{table}
+use Rattle.reading.specs.Layout.{countWidth, places, gathererWidths, gathererLength, valuesWidthsWith, eventsWidthsWith, tableLength, imageLengthWith}
+use Rattle.reading.specs.Layout.{settingsOffset, gathererOffset, valuesOffset, eventsOffsetWith}
+use Rattle.reading.specs.Image.{tableWith}
+use Rattle.reading.specs.Feed.{lastValue}
 
 -- the bytes of a section
 abbrev pub part : ℕ → ℕ → List ℕ → List ℕ
@@ -55,11 +56,13 @@ wholeRule whole v = whole ≡ʳ 0 implies v ≡ʳ 0
 abbrev pub placesRule : ℕ → ℕ → ℕ → List ℕ → Rule
 placesRule most n v numbers = allUpTo most numbers and allZero (drop (min v n) numbers)
 
--- body 3, V, the values and their marks, behind a body 2 that tells whether there is a whole half-cycle: values ≤ 524,288, marks 0 or 1
+-- body 3, V, the values and their marks, behind a body 2 that tells whether there is a whole half-cycle: V within its end (02, N7), which 4 bytes never pass;
+-- values ≤ 524,288, marks 0 or 1
 abbrev pub valuesRule : ℕ → ℕ → List ℕ → Rule
 valuesRule n whole ns =
     let v = getD ns 0 0 in
-    wholeRule whole v
+    v ≤ʳ lastValue
+    and wholeRule whole v
     and placesRule valueMost n v (take places (drop 1 ns))
     and placesRule 1 n v (drop (1 + places) ns)
 
@@ -115,21 +118,30 @@ settingsPart b = part settingsOffset settingsLength b
 abbrev pub gathererIn : List ℕ → List ℕ
 gathererIn b = numbersIn gathererWidths (part gathererOffset gathererLength b)
 
+abbrev pub valuesInWith : ℕ → List ℕ → List ℕ
+valuesInWith c b = numbersIn (valuesWidthsWith c) (part valuesOffset (total (valuesWidthsWith c)) b)
+
 abbrev pub valuesIn : List ℕ → List ℕ
-valuesIn b = numbersIn valuesWidths (part valuesOffset valuesLength b)
+valuesIn b = valuesInWith countWidth b
+
+abbrev pub eventsInWith : ℕ → List ℕ → List ℕ
+eventsInWith c b = numbersIn (eventsWidthsWith c) (part (eventsOffsetWith c) (total (eventsWidthsWith c)) b)
 
 abbrev pub eventsIn : List ℕ → List ℕ
-eventsIn b = numbersIn eventsWidths (part eventsOffset eventsLength b)
+eventsIn b = eventsInWith countWidth b
 
 -- each section is taken only if the one before it was good; 0 where the bytes are accepted
-unfoldable pub restoreRefusal : List ℕ → ℕ
-restoreRefusal b =
+unfoldable pub restoreRefusalWith : ℕ → List ℕ → ℕ
+restoreRefusalWith c b =
     let s = settingsOf (settingsPart b) in
     let n = windowLength s in
-    refuse 8 unless length b ≡ᵇ imageLength then
-    refuse 9 unless sameBytes (part 0 tableLength b) table then
+    refuse 8 unless length b ≡ᵇ imageLengthWith c then
+    refuse 9 unless sameBytes (part 0 tableLength b) (tableWith c) then
     refuse 10 unless startRefusal (settingsPart b) ≡ᵇ 0 then
     refuse 11 unless passes (gathererRule (s .samples) (gathererIn b)) then
-    refuse 11 unless passes (valuesRule n (getD (gathererIn b) 3 0) (valuesIn b)) then
-    refuse 11 unless passes (eventsRule n (getD (valuesIn b) 0 0) (eventsIn b)) then
+    refuse 11 unless passes (valuesRule n (getD (gathererIn b) 3 0) (valuesInWith c b)) then
+    refuse 11 unless passes (eventsRule n (getD (valuesInWith c b) 0 0) (eventsInWith c b)) then
     0
+
+abbrev pub restoreRefusal : List ℕ → ℕ
+restoreRefusal b = restoreRefusalWith countWidth b

@@ -1,6 +1,9 @@
 // The plain data that the readings in specs/ speak of, and the promise of 01's bench readings.
 ghost use Rattle.reading.specs.Bench.{BenchReadings};
 
+// V's end, 2^63 − 1.
+pub const LAST_VALUE: u64 = 9_223_372_036_854_775_807;
+
 // The events that are told by a threshold.
 pub enum Kind {
     Dip,

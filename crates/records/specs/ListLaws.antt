@@ -9,14 +9,17 @@ use Rattle.octets.specs.Bytes.{Bytes, row}
 use Rattle.octets.specs.BytesLaws.{bytes-take, bytes-drop}
 use Rattle.octets.specs.RowLaws.{Fit, length-row, numbersIn-row, numbersIn-fit}
 use Rattle.reading.specs.declared.Record.{Record}
-use Rattle.reading.specs.Layout.{recordWidths, recordLength}
+use Rattle.reading.specs.Layout.{countWidth, recordWidthsWith, recordWidths, recordLength}
 use Rattle.reading.specs.Records.{recordNumbers, recordBytes, eventFrom, eventOf, firstEvents, eventsOf}
 use Rattle.records.specs.DueLaws.{length-recordBytes}
 
--- records whose numbers fit their bytes
+-- records whose numbers fit their bytes, in the edition whose counts have c of them
+abbrev pub RecordsFitWith : ℕ → List Record → Type 0
+RecordsFitWith c [] = Unit {0}
+RecordsFitWith c (r ∷ rs) = Fit (recordWidthsWith c) (recordNumbers r) × RecordsFitWith c rs
+
 abbrev pub RecordsFit : List Record → Type 0
-RecordsFit [] = Unit {0}
-RecordsFit (r ∷ rs) = Fit recordWidths (recordNumbers r) × RecordsFit rs
+RecordsFit rs = RecordsFitWith countWidth rs
 
 pub events-of-records : (rs : List Record) → RecordsFit rs → eventsOf (recordBytes rs) ≡ map (λ r. r .event) rs
 events-of-records rs fit =

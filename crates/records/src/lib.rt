@@ -13,9 +13,9 @@ ghost use Rattle.threshold.specs.Standing.{listOf};
 ghost use Rattle.records.specs.Due.{recordsOf, placed};
 
 // A record: kind, mark, zero bytes, start, duration, first and second magnitude.
-pub const RECORD_LENGTH: usize = 20;
+pub const RECORD_LENGTH: usize = 28;
 
-const WIDTHS: [u8; 7] = [1, 1, 2, 4, 4, 4, 4];
+const WIDTHS: [u8; 7] = [1, 1, 2, 8, 8, 4, 4];
 
 // The records due at one value, by kind.
 pub struct Due {

@@ -1,4 +1,5 @@
 // Refusal 11 in code: whether the numbers of an image's bodies keep the rules. Each test answers what the rule's own test answers.
+use reading::LAST_VALUE;
 ghost use mathlib.Core.Path.{_≡_};
 ghost use mathlib.Core.Bool.{not, _&&_, _||_};
 ghost use mathlib.Core.List.{_∷_, _++_};
@@ -140,6 +141,9 @@ pub fn values_good(
     requires { ⌜ («window_length» ≤ 120) × (length (now window) ≡ 120) × (length (now marks) ≡ 120) ⌝ }
     ensures { λ r. ⌜ r ≡ passes (valuesRule «window_length» (flag whole) (count ∷ (now (window .entry) ++ now (marks .entry)))) ⌝ }
 {
+    if LAST_VALUE < count {
+        return false;
+    }
     if !whole_good(whole, count) {
         return false;
     }

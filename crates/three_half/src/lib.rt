@@ -1,8 +1,8 @@
 // The end of a half-cycle of a three-phase logger: a part of each channel, the values that end with it, and their records.
-use detection::Detector;
 use joint::Joint;
 use joint::JointSums;
 use joint::Values;
+use reading::LAST_VALUE;
 use records::RECORD_LENGTH;
 use rms::Gatherer;
 use settings::Scaled;
@@ -140,7 +140,7 @@ pub fn complete(
         });
     }
     let count = joint.count;
-    if count == Detector::LAST_VALUE {
+    if count == LAST_VALUE {
         return HalfEnd::Refused(2);
     }
     let values = values_of(settings, gatherers, halves, a, b, c, count);

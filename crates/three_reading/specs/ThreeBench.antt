@@ -99,14 +99,14 @@ abbrev pub marksOfThree : List ℤ → List ℤ → List ℤ → List Bool
 marksOfThree a b c = map (λ (r : Record). r .clipped) (jointRecords (qLoud 400000) (tripled a b c))
 
 pub record ThreeBenchReadings : Type 0 where
-  -- a dip of one channel and a swell of another, due at one value: all 192 samples are taken, and the records are written over 40 of 45 bytes
+  -- a dip of one channel and a swell of another, due at one value: all 192 samples are taken, and the records are written over 56 of 61 bytes
   pub apart-fed :
-      apartFed 45
+      apartFed 61
       ≡ fed (record { taken = 192; written = 2; why = 0 })
-      (1 ∷ 0 ∷ 0 ∷ 0 ∷ 3 ∷ 0 ∷ 0 ∷ 0 ∷ 3 ∷ 0 ∷ 0 ∷ 0 ∷ 32 ∷ 3 ∷ 0 ∷ 0 ∷ 0 ∷ 0 ∷ 0 ∷ 0
-      ∷ 2 ∷ 0 ∷ 0 ∷ 0 ∷ 5 ∷ 0 ∷ 0 ∷ 0 ∷ 1 ∷ 0 ∷ 0 ∷ 0 ∷ 0 ∷ 7 ∷ 0 ∷ 0 ∷ 0 ∷ 0 ∷ 0 ∷ 0 ∷ replicate 5 7)
+      (1 ∷ 0 ∷ 0 ∷ 0 ∷ 3 ∷ 0 ∷ 0 ∷ 0 ∷ 0 ∷ 0 ∷ 0 ∷ 0 ∷ 3 ∷ 0 ∷ 0 ∷ 0 ∷ 0 ∷ 0 ∷ 0 ∷ 0 ∷ 32 ∷ 3 ∷ 0 ∷ 0 ∷ 0 ∷ 0 ∷ 0 ∷ 0
+      ∷ 2 ∷ 0 ∷ 0 ∷ 0 ∷ 5 ∷ 0 ∷ 0 ∷ 0 ∷ 0 ∷ 0 ∷ 0 ∷ 0 ∷ 1 ∷ 0 ∷ 0 ∷ 0 ∷ 0 ∷ 0 ∷ 0 ∷ 0 ∷ 0 ∷ 7 ∷ 0 ∷ 0 ∷ 0 ∷ 0 ∷ 0 ∷ 0 ∷ replicate 5 7)
   -- with room for one record, and for none: nothing is written, and the last sample taken is the one before value 6
-  pub apart-with-one : apartFed 39 ≡ fed (record { taken = 165; written = 0; why = 1 }) (replicate 39 7)
+  pub apart-with-one : apartFed 55 ≡ fed (record { taken = 165; written = 0; why = 1 }) (replicate 55 7)
   pub apart-with-none : apartFed 0 ≡ fed (record { taken = 165; written = 0; why = 1 }) []
   -- fed in turn a, b, c up to value 5, and then a look: the three newest values; the dip and the swell stand together
   pub apart-looked :
@@ -122,17 +122,17 @@ pub record ThreeBenchReadings : Type 0 where
       })
   -- two samples are refused with 14, and nothing changes; so are four, the whole triple with them; of none, all are taken
   pub two-refused : answer q apart (feed (pos 1 ∷ pos 2 ∷ []) (7 ∷ 7 ∷ [])) ≡ refused 14 (7 ∷ 7 ∷ [])
-  pub two-not-taken : recordingWith q apart (feed (pos 1 ∷ pos 2 ∷ []) (replicate 40 7)) ≡ apart
+  pub two-not-taken : recordingWith q apart (feed (pos 1 ∷ pos 2 ∷ []) (replicate 56 7)) ≡ apart
   pub four-refused : answer q apart (feed (pos 1 ∷ pos 2 ∷ pos 3 ∷ pos 4 ∷ []) (7 ∷ 7 ∷ [])) ≡ refused 14 (7 ∷ 7 ∷ [])
-  pub four-not-taken : recordingWith q apart (feed (pos 1 ∷ pos 2 ∷ pos 3 ∷ pos 4 ∷ []) (replicate 40 7)) ≡ apart
+  pub four-not-taken : recordingWith q apart (feed (pos 1 ∷ pos 2 ∷ pos 3 ∷ pos 4 ∷ []) (replicate 56 7)) ≡ apart
   pub none-fed : answer q apart (feed [] (7 ∷ [])) ≡ fed (record { taken = 0; written = 0; why = 0 }) (7 ∷ [])
   -- a dip that goes from channel to channel is one dip, with the least value of all
-  pub one-dip : bytesOf handedOn ≡ 1 ∷ 0 ∷ 0 ∷ 0 ∷ 3 ∷ 0 ∷ 0 ∷ 0 ∷ 6 ∷ 0 ∷ 0 ∷ 0 ∷ 96 ∷ 4 ∷ 0 ∷ 0 ∷ 0 ∷ 0 ∷ 0 ∷ 0 ∷ []
+  pub one-dip : bytesOf handedOn ≡ 1 ∷ 0 ∷ 0 ∷ 0 ∷ 3 ∷ 0 ∷ 0 ∷ 0 ∷ 0 ∷ 0 ∷ 0 ∷ 0 ∷ 6 ∷ 0 ∷ 0 ∷ 0 ∷ 0 ∷ 0 ∷ 0 ∷ 0 ∷ 96 ∷ 4 ∷ 0 ∷ 0 ∷ 0 ∷ 0 ∷ 0 ∷ 0 ∷ []
   -- an interruption begins with the last channel that is lost and ends with the first that is back, in a dip that begins with the first and ends with the last
   pub interruption-in-dip :
       bytesOf outage
-      ≡ 3 ∷ 0 ∷ 0 ∷ 0 ∷ 5 ∷ 0 ∷ 0 ∷ 0 ∷ 1 ∷ 0 ∷ 0 ∷ 0 ∷ 32 ∷ 0 ∷ 0 ∷ 0 ∷ 0 ∷ 0 ∷ 0 ∷ 0
-      ∷ 1 ∷ 0 ∷ 0 ∷ 0 ∷ 2 ∷ 0 ∷ 0 ∷ 0 ∷ 8 ∷ 0 ∷ 0 ∷ 0 ∷ 32 ∷ 0 ∷ 0 ∷ 0 ∷ 0 ∷ 0 ∷ 0 ∷ 0 ∷ []
+      ≡ 3 ∷ 0 ∷ 0 ∷ 0 ∷ 5 ∷ 0 ∷ 0 ∷ 0 ∷ 0 ∷ 0 ∷ 0 ∷ 0 ∷ 1 ∷ 0 ∷ 0 ∷ 0 ∷ 0 ∷ 0 ∷ 0 ∷ 0 ∷ 32 ∷ 0 ∷ 0 ∷ 0 ∷ 0 ∷ 0 ∷ 0 ∷ 0
+      ∷ 1 ∷ 0 ∷ 0 ∷ 0 ∷ 2 ∷ 0 ∷ 0 ∷ 0 ∷ 0 ∷ 0 ∷ 0 ∷ 0 ∷ 8 ∷ 0 ∷ 0 ∷ 0 ∷ 0 ∷ 0 ∷ 0 ∷ 0 ∷ 32 ∷ 0 ∷ 0 ∷ 0 ∷ 0 ∷ 0 ∷ 0 ∷ 0 ∷ []
   -- one channel at D exactly begins no dip, below it does; then one at D + G exactly, the others above, lets it end, below it does not
   pub dip-levels :
       stands Dip (level 100 90 100) ∷ stands Dip (level 100 89 100) ∷ stands Dip (level 100 89 100 ++ level 100 92 100) ∷ stands Dip (level 100 89 100 ++ level 100 91 100) ∷ []

@@ -8,6 +8,7 @@
 use outside::hosts::{hosts, Host};
 use outside::image::IMAGE;
 use outside::rng::Rng;
+use outside::room::RECORD;
 use std::hint::black_box;
 use std::time::Instant;
 
@@ -129,7 +130,7 @@ fn warmed(host: &Host, m: usize, bytes: &[u8]) -> Vec<u8> {
     let mut fresh = vec![0; IMAGE];
     assert_eq!((host.begin)(&settings(m as u32), &mut fresh), 0);
     let mut image = vec![0; IMAGE];
-    let mut records = vec![0; 20 * bytes.len()];
+    let mut records = vec![0; RECORD * bytes.len()];
     let mut reply = [0; 24];
     let end = (2 * 2000 * m).min(bytes.len());
     assert_eq!((host.advance)(&fresh, &bytes[..end], &mut image, &mut records, &mut reply), 0);
@@ -187,7 +188,7 @@ fn main() {
     for m in [8, 64, 256] {
         for feed in FEEDS {
             let bytes = samples(feed, m, LARGE);
-            let mut records = vec![1; 20 * 3 * (LARGE / m + 1)];
+            let mut records = vec![1; RECORD * 3 * (LARGE / m + 1)];
             let images: Vec<_> = hosts.iter().map(|x| warmed(x, m, &bytes)).collect();
             let mut written = 0;
             let times = rounds(count, &hosts, |j, host| {
@@ -206,7 +207,7 @@ fn main() {
     for m in [8, 64, 256] {
         for feed in FEEDS {
             let bytes = samples(feed, m, HALVES * m);
-            let mut records = vec![1; 80];
+            let mut records = vec![1; 4 * RECORD];
             let images: Vec<_> = hosts.iter().map(|x| warmed(x, m, &bytes)).collect();
             let times = rounds(count, &hosts, |j, host| {
                 pieces(host, &images[j], &bytes, 2 * m, &mut records)

@@ -10,8 +10,9 @@ use super::logger::Logger;
 use super::program::HIGH;
 use super::seen::{Marks, Stands};
 use super::{waves, Looked};
-use crate::call_lists::{buffer, fed_line, printed, List, FEED, LOOK, START};
+use crate::call_lists::{buffer, fed_line, printed, List, FEED, LOOK, ROOM, START};
 use crate::engineer::Fed;
+use crate::lists::about_whole_records;
 use crate::rng::{one_of, Rng};
 use crate::room::RECORD;
 use crate::rules::{settings_bytes, Settings};
@@ -22,7 +23,7 @@ const MOST_SAMPLES: usize = 32_766;
 /// The lists that the gate runs the program on in one go, by their numbers under a seed: together
 /// they have everything that is counted.
 const FILES_SEED: u64 = 1;
-const FILES_LISTS: [u64; 10] = [871, 1027, 4232, 4323, 4466, 7760, 7844, 8300, 11089, 11386];
+const FILES_LISTS: [u64; 7] = [6447, 6648, 7558, 9106, 10211, 11053, 14257];
 
 /// What has been seen.
 #[derive(Default)]
@@ -176,14 +177,12 @@ impl Making<'_> {
     }
 
     fn room(&mut self) -> usize {
-        let room = match self.rng.range(0, 9) {
+        match self.rng.range(0, 9) {
             0..=1 => 0,
-            2 => self.rng.range(0, 100),
-            3 => one_of(&[19, 20, 39, 40, 59, 60, 61], self.rng),
-            4..=6 => 20 * self.rng.range(0, 3),
-            _ => 400,
-        };
-        room as usize
+            2 => self.rng.range(0, 5 * RECORD as i64) as usize,
+            3..=6 => about_whole_records(self.rng),
+            _ => ROOM,
+        }
     }
 
     fn calls(&mut self, calls: i64) {
@@ -211,7 +210,7 @@ impl Making<'_> {
         }
         // What is left, and what the list leaves.
         let length = left.len().min(MOST_SAMPLES);
-        self.feed(&left[..length], 400);
+        self.feed(&left[..length], ROOM);
         self.look();
     }
 }
@@ -239,9 +238,9 @@ fn three_due(rng: &mut Rng, seen: &mut Tally) -> List {
     let steps = [(150, 22_500), (2, 23_500), (98, 22_500), (2, 22_250), (3, 22_750)];
     let block = steps.map(|(halves, count)| vec![count; 24 * halves]).concat();
     let mut making = start(List::default(), s, 4, rng, seen);
-    let taken = making.feed(&block, 59);
+    let taken = making.feed(&block, 3 * RECORD - 1);
     making.look();
-    making.feed(&block[taken..], 60);
+    making.feed(&block[taken..], 3 * RECORD);
     making.look();
     assert_eq!(making.engineer.written().len(), 3 * RECORD);
     making.list
@@ -272,7 +271,7 @@ pub fn list(rng: &mut Rng, seen: &mut Tally) -> List {
 /// Puts what the program does not read any more behind a list: where a start should stand, another
 /// item, and then a start.
 pub fn end(list: &mut List, kind: u8) {
-    list.item(kind, 1, 20, &[1, 2, 3, 4, 5, 6]);
+    list.item(kind, 1, RECORD, &[1, 2, 3, 4, 5, 6]);
     list.item(START, 1, 0, &[1, 2, 3]);
 }
 

@@ -4,7 +4,7 @@
 use super::{Channel, Looked, CHANNELS};
 use crate::engineer::Fed;
 use crate::limits::Limits;
-use crate::logger::{Event, Value, PLACES};
+use crate::logger::{Event, Value, END, PLACES};
 use crate::room::{head, Record, Room, RECORD};
 use crate::squares::{root, Part, Sample};
 
@@ -14,7 +14,7 @@ enum Signal {
     NeverTrue,
     True,
     /// False since this value.
-    False(u32),
+    False(u64),
 }
 
 /// The last N values of a channel, value i in place (i − 1) mod N, with their sum.
@@ -29,8 +29,8 @@ impl Window {
     const EMPTY: Window = Window { places: [0; PLACES], sum: 0, signal: Signal::NeverTrue };
 
     /// With value i, which takes the place of value i − N.
-    fn with(mut self, i: u32, r: u32, l: &Limits) -> Window {
-        let n = l.n as u32;
+    fn with(mut self, i: u64, r: u32, l: &Limits) -> Window {
+        let n = l.n as u64;
         let place = &mut self.places[((i - 1) % n) as usize];
         self.sum = self.sum - *place + r;
         *place = r;
@@ -57,10 +57,10 @@ impl Window {
 /// mark.
 #[derive(Clone, Copy)]
 struct Change {
-    k: u32,
+    k: u64,
     before: [u32; CHANNELS],
     greatest: u32,
-    stand: u32,
+    stand: u64,
     clipped: bool,
 }
 
@@ -80,7 +80,7 @@ pub struct Logger {
     parts: [Part; CHANNELS],
     lasts: [Part; CHANNELS],
     whole: bool,
-    v: u32,
+    v: u64,
     windows: [Window; CHANNELS],
     /// Whether a joint value is clipped, in the windows' places.
     marks: [bool; PLACES],
@@ -154,7 +154,7 @@ impl Logger {
     /// Ends the three half-cycles, or says why not and changes nothing.
     fn halves(&mut self, halves: [Part; CHANNELS], room: &mut Room) -> Result<(), u64> {
         if self.whole {
-            if self.v == u32::MAX {
+            if self.v == END {
                 return Err(2);
             }
             let r = std::array::from_fn(|c| {
@@ -208,14 +208,14 @@ impl Logger {
     }
 
     /// The place of value i in the windows.
-    fn place(&self, i: u32) -> usize {
-        (i as usize - 1) % self.limits.n
+    fn place(&self, i: u64) -> usize {
+        ((i - 1) % self.limits.n as u64) as usize
     }
 
     /// The joint phase after value V + 1, with these windows, and the record of the change that it
     /// closes; `stand` is V + 1 if a joint dip or swell first stands there, else 0.
-    fn phase_after(&self, windows: &[Window; CHANNELS], stand: u32) -> (Phase, Option<Record>) {
-        let n = self.limits.n as u32;
+    fn phase_after(&self, windows: &[Window; CHANNELS], stand: u64) -> (Phase, Option<Record>) {
+        let n = self.limits.n as u64;
         let i = self.v + 1;
         let steady = windows.iter().all(|x| x.signal == Signal::True);
         let before = self.windows.map(|x| x.sum);
@@ -227,7 +227,8 @@ impl Logger {
                 if left >= c.k {
                     let place = self.place(i);
                     for (window, before) in self.windows.iter().zip(c.before) {
-                        c.greatest = c.greatest.max((n * window.places[place]).abs_diff(before));
+                        let scaled = n as u32 * window.places[place];
+                        c.greatest = c.greatest.max(scaled.abs_diff(before));
                     }
                     c.clipped |= self.marks[place];
                 }
@@ -237,7 +238,13 @@ impl Logger {
                 if steady {
                     let sums = windows.iter().zip(c.before);
                     let second = sums.map(|(x, before)| x.sum.abs_diff(before)).max().unwrap();
-                    let record = [head(4, c.clipped), c.k, left - c.k, c.greatest, second];
+                    let record = Record {
+                        head: head(4, c.clipped),
+                        start: c.k,
+                        duration: left - c.k,
+                        first: c.greatest,
+                        second,
+                    };
                     let shown = c.stand == 0 || c.stand > left;
                     return (Phase::Steady, shown.then_some(record));
                 }
@@ -256,9 +263,9 @@ impl Logger {
     }
 
     pub fn look(&self) -> Looked {
-        let full = self.v as usize >= self.limits.n;
+        let full = self.v >= self.limits.n as u64;
         let channels = self.windows.each_ref().map(|x| Channel {
-            v: self.v as u64,
+            v: self.v,
             r: if self.v > 0 { x.places[self.place(self.v)] as u64 } else { 0 },
             a: if full { x.sum as u64 } else { 0 },
         });

@@ -324,7 +324,8 @@ impl<'a> Scenes<'a> {
     /// A step that most often begins a change.
     fn wide(&mut self) -> i64 {
         let least = self.calm(self.s.t);
-        one_of(&[least, least + 1, least + self.rng.range(1, least + 1), 2 * least], self.rng)
+        let more = self.rng.range(1, least.max(0) + 1);
+        one_of(&[least, least + 1, least + more, 2 * least], self.rng)
     }
 
     /// Any step of about a limit's size.

@@ -56,9 +56,10 @@ pub fn feed(settings: [u32; 9], samples: &[i16], room: usize) -> Left {
 }
 
 /// A record's kind (with its mark in the second byte), start, duration and magnitudes.
-pub fn numbers(record: &[u8]) -> [u32; 5] {
-    let four = |at: usize| u32::from_le_bytes(record[at..at + 4].try_into().unwrap());
-    [0, 4, 8, 12, 16].map(four)
+pub fn numbers(record: &[u8]) -> [u64; 5] {
+    let four = |at: usize| u32::from_le_bytes(record[at..at + 4].try_into().unwrap()) as u64;
+    let eight = |at: usize| u64::from_le_bytes(record[at..at + 8].try_into().unwrap());
+    [four(0), eight(4), eight(12), four(20), four(24)]
 }
 
 /// The event program refuses settings that are too short, and those that break one rule, with its

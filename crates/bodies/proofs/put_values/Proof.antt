@@ -10,7 +10,7 @@ use Rattle.octets.specs.Bytes.{Bytes, bytesOf, row, fours}
 use Rattle.octets.specs.BytesLaws.{bytes-by}
 use Rattle.octets.specs.RowLaws.{length-row, row-append, row-ones}
 use Rattle.octets.specs.PartsLaws.{put-next, put-last, bytesOf-part}
-use Rattle.reading.specs.Layout.{places, valuesWidths, valuesLength}
+use Rattle.reading.specs.Layout.{countWidth, places, valuesWidths, valuesLength}
 use Rattle.bodies.specs.Bodies.{marksAt}
 use Rattle.bodies.proofs.put_values.Statement.{statement}
 use Rattle.bodies.proofs.put_values.Tie as tie
@@ -21,18 +21,18 @@ module _ (w marks : List ℕ) (values-size : length w ≡ places) (marks-size : 
       let ones : row (replicate places 1) marks ≡ marks = rw marks-size at (row-ones marks are) in
       sym (row-append (replicate places 4) (replicate places 1) w marks values-size ∙ ap (row (replicate places 4) w ++_) ones)
 
-  values-put : (p : List ℕ) (v : ℕ) (y₁ y₂ y₃ : List ℕ) → length p ≡ valuesLength → Bytes marks → y₁ ≡ bytesOf 4 v → y₂ ≡ row (fours w) w → y₃ ≡ marks →
-      putMid marksAt (valuesLength - marksAt) (putMid 4 (marksAt - 4) (putMid 0 4 p y₁) y₂) y₃ ≡ row valuesWidths (v ∷ (w ++ marks))
+  values-put : (p : List ℕ) (v : ℕ) (y₁ y₂ y₃ : List ℕ) → length p ≡ valuesLength → Bytes marks → y₁ ≡ bytesOf countWidth v → y₂ ≡ row (fours w) w → y₃ ≡ marks →
+      putMid marksAt (valuesLength - marksAt) (putMid countWidth (marksAt - countWidth) (putMid 0 countWidth p y₁) y₂) y₃ ≡ row valuesWidths (v ∷ (w ++ marks))
   values-put p v y₁ y₂ y₃ size are e₁ e₂ e₃ =
       let values = row (replicate places 4) w in
-      let two = bytesOf 4 v ++ values in
-      let rest = drop (marksAt - 4) (drop 4 p) in
+      let two = bytesOf countWidth v ++ values in
+      let rest = drop (marksAt - countWidth) (drop countWidth p) in
       let e₂₄ : y₂ ≡ values = e₂ ∙ ap (λ (n : ℕ). row (replicate n 4) w) values-size in
       let long : length two ≡ marksAt = omega (arith, length-row (replicate places 4) w values-size) in
-      let in-place = put-next 4 (marksAt - 4) (putMid 0 4 p (bytesOf 4 v)) (bytesOf 4 v) (drop 4 p) values refl refl in
-      (λ i. putMid marksAt (valuesLength - marksAt) (putMid 4 (marksAt - 4) (putMid 0 4 p (e₁ i)) (e₂₄ i)) (e₃ i))
+      let in-place = put-next countWidth (marksAt - countWidth) (putMid 0 countWidth p (bytesOf countWidth v)) (bytesOf countWidth v) (drop countWidth p) values refl refl in
+      (λ i. putMid marksAt (valuesLength - marksAt) (putMid countWidth (marksAt - countWidth) (putMid 0 countWidth p (e₁ i)) (e₂₄ i)) (e₃ i))
       ∙ (put-last marksAt (valuesLength - marksAt) _ two rest marks in-place long (simp length-drop (omega arith))
-      ∙ ap (bytesOf 4 v ++_) (both-rows are))
+      ∙ ap (bytesOf countWidth v ++_) (both-rows are))
 
 sub-put-number : tie.Need-sub-put-number
 sub-put-number c = search needs
@@ -83,7 +83,7 @@ returns c =
     let a = start .args in
     values-put (a .window .now) (a .marks .now) (start .pre .1) (start .pre .2) (a .part .now) (a .count) _ _ _ (start .pre .0)
     (bytes-by (a .marks .now) (λ i. omega (arith, known .shared-slice-known2 .given i)))
-    (bytesOf-part 0 4 (a .count) (a .part .now) _ (omega arith) (at-number .put-number .ensures))
+    (bytesOf-part 0 countWidth (a .count) (a .part .now) _ (omega arith) (at-number .put-number .ensures))
     (at-words .put-words .ensures)
     (at-copy .copy .ensures)
 

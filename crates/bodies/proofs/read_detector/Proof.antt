@@ -33,29 +33,23 @@ answer-is s v body ns r e n-is t = ap (λ (b : Bool). answer-by b v ns) t ∙ (�
 
 -- what `events_good` answered of them
 module _ (c : tie.After-events-good) where
-  abbrev at-row : tie.After-get-row
-  at-row = c .before .before .before .before
+  abbrev at-row : tie.After-events-numbers
+  at-row = c .before .before .before
 
   abbrev ns : List ℕ
-  ns = at-row .get-row .last .1 .1 .0
+  ns = at-row .events-numbers .result
 
   abbrev start : tie.Start
-  start = at-row .before .before .before .before
+  start = at-row .before .before
 
   abbrev v : ℕ
   v = start .args .count
 
   answer : answer-by (c .events-good .result) v ns ≡ detectorAnswer (start .args .settings) v (start .args .part .now)
-  answer = answer-is _ v _ ns _ (at-row .get-row .ensures) (c .before .window-length .ensures .0) (c .events-good .ensures)
+  answer = answer-is _ v _ ns _ (at-row .events-numbers .ensures) (c .before .window-length .ensures .0) (c .events-good .ensures)
 
-slice-aggregate-get-row : tie.Need-slice-aggregate-get-row
-slice-aggregate-get-row c = search needs
-
-slice-aggregate-get-row-2 : tie.Need-slice-aggregate-get-row-2
-slice-aggregate-get-row-2 c = search needs
-
-get-row-requires : tie.Need-get-row-requires
-get-row-requires c κs = search needs
+events-numbers-requires : tie.Need-events-numbers-requires
+events-numbers-requires c κs = search needs
 
 slice-aggregate-events-good : tie.Need-slice-aggregate-events-good
 slice-aggregate-events-good c = search needs
@@ -72,17 +66,17 @@ returns c = ap (λ (b : Bool). answer-by b (v (c .before)) (ns (c .before))) (sy
 array-read-phase-of : tie.Need-array-read-phase-of
 array-read-phase-of c = search needs
 
+array-read-t20 : tie.Need-array-read-t20
+array-read-t20 c = search needs
+
+array-read-t23 : tie.Need-array-read-t23
+array-read-t23 c = search needs
+
 array-read-t26 : tie.Need-array-read-t26
 array-read-t26 c = search needs
 
 array-read-t29 : tie.Need-array-read-t29
 array-read-t29 c = search needs
-
-array-read-t32 : tie.Need-array-read-t32
-array-read-t32 c = search needs
-
-array-read-t35 : tie.Need-array-read-t35
-array-read-t35 c = search needs
 
 array-read-phase-of-2 : tie.Need-array-read-phase-of-2
 array-read-phase-of-2 c = search needs
@@ -90,32 +84,32 @@ array-read-phase-of-2 c = search needs
 phase-of-requires : tie.Need-phase-of-requires
 phase-of-requires c κs = search needs
 
-array-read-t26-2 : tie.Need-array-read-t26-2
-array-read-t26-2 c = search needs
+array-read-t20-2 : tie.Need-array-read-t20-2
+array-read-t20-2 c = search needs
 
-array-read-t20 : tie.Need-array-read-t20
-array-read-t20 c = search needs
-
-array-read-t35-2 : tie.Need-array-read-t35-2
-array-read-t35-2 c = search needs
+array-read-t14 : tie.Need-array-read-t14
+array-read-t14 c = search needs
 
 array-read-t29-2 : tie.Need-array-read-t29-2
 array-read-t29-2 c = search needs
 
-array-read-t32-2 : tie.Need-array-read-t32-2
-array-read-t32-2 c = search needs
+array-read-t23-2 : tie.Need-array-read-t23-2
+array-read-t23-2 c = search needs
 
-array-read-t35-3 : tie.Need-array-read-t35-3
-array-read-t35-3 c = search needs
+array-read-t26-2 : tie.Need-array-read-t26-2
+array-read-t26-2 c = search needs
 
-array-read-t26-3 : tie.Need-array-read-t26-3
-array-read-t26-3 c = search needs
+array-read-t29-3 : tie.Need-array-read-t29-3
+array-read-t29-3 c = search needs
 
-array-read-t20-2 : tie.Need-array-read-t20-2
-array-read-t20-2 c = search needs
+array-read-t20-3 : tie.Need-array-read-t20-3
+array-read-t20-3 c = search needs
 
-array-read-t35-4 : tie.Need-array-read-t35-4
-array-read-t35-4 c = search needs
+array-read-t14-2 : tie.Need-array-read-t14-2
+array-read-t14-2 c = search needs
+
+array-read-t29-4 : tie.Need-array-read-t29-4
+array-read-t29-4 c = search needs
 
 returns-2 : tie.Need-returns-2
 returns-2 c =
@@ -127,27 +121,25 @@ pub read-detector-spec : {M : Type 1} → statement M
 read-detector-spec =
     tie.close
     (tie.spec
-    slice-aggregate-get-row
-    slice-aggregate-get-row-2
-    get-row-requires
+    events-numbers-requires
     slice-aggregate-events-good
     window-length-requires
     events-good-requires
     returns
     array-read-phase-of
+    array-read-t20
+    array-read-t23
     array-read-t26
     array-read-t29
-    array-read-t32
-    array-read-t35
     array-read-phase-of-2
     phase-of-requires
-    array-read-t26-2
-    array-read-t20
-    array-read-t35-2
-    array-read-t29-2
-    array-read-t32-2
-    array-read-t35-3
-    array-read-t26-3
     array-read-t20-2
-    array-read-t35-4
+    array-read-t14
+    array-read-t29-2
+    array-read-t23-2
+    array-read-t26-2
+    array-read-t29-3
+    array-read-t20-3
+    array-read-t14-2
+    array-read-t29-4
     returns-2)

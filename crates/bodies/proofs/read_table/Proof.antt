@@ -1,22 +1,15 @@
 -- `check::same` tells whether the bytes are those that `put_table` writes, which are the table; so its answer is the reading's test.
 use mathlib.Core.Path.{_≡_, refl, sym, _∙_, ap}
 use mathlib.Core.Bool.{Bool, true, false}
-use mathlib.Core.List.{List, [], _∷_}
+use mathlib.Core.List.{List}
 use Prim.Native.Nat.{ℕ}
 use borrow.Author.Needs.{needs}
-use borrow.Author.Tests.{eq-eqb}
 use Rattle.numbers.specs.Notation.{refuse_unless_then_}
-use Rattle.numbers.specs.NotationLaws.{and-true}
-use Rattle.reading.specs.Image.{table}
+use Rattle.reading.specs.Image.{tableWith}
 use Rattle.reading.specs.Restore.{sameBytes}
-use Rattle.bodies.specs.BodiesLaws.{same-equal}
+use Rattle.bodies.specs.BodiesLaws.{same-equal, same-itself}
 use Rattle.bodies.proofs.read_table.Statement.{statement}
 use Rattle.bodies.proofs.read_table.Tie as tie
-
--- the reading's test holds of bytes that are equal
-same-itself : (xs : List ℕ) → sameBytes xs xs ≡ true
-same-itself [] = refl
-same-itself (x ∷ xs) = and-true (eq-eqb x x refl) (same-itself xs)
 
 -- an answer that is true of equal bytes only, and of all that are equal, is the reading's test
 answer-same : (xs ys : List ℕ) (r : Bool) → (r ≡ true → xs ≡ ys) → (xs ≡ ys → r ≡ true) → r ≡ sameBytes xs ys
@@ -43,7 +36,7 @@ same-requires : tie.Need-same-requires
 same-requires c κs = search needs
 
 -- what `same` answered of the bytes that were written
-answer : (c : tie.After-same) → c .same .result ≡ sameBytes (c .before .before .before .before .before .before .args .part .now) table
+answer : (c : tie.After-same) → let a = c .before .before .before .before .before .before .args in c .same .result ≡ sameBytes (a .part .now) (tableWith (a .count-width))
 answer c =
     let at-table = c .before .before .before in
     let part = at-table .before .before .before .args .part .now in

@@ -13,7 +13,7 @@ use Rattle.numbers.specs.Notation.{flag, refuse_unless_then_}
 use Rattle.numbers.specs.Rules.{passes}
 use Rattle.settings.specs.declared.Settings.{Settings}
 use Rattle.settings.specs.Settings.{windowLength}
-use Rattle.reading.specs.Layout.{places, valuesWidths, valuesLength}
+use Rattle.reading.specs.Layout.{countWidth, places, valuesWidths, valuesLength}
 use Rattle.reading.specs.Restore.{valuesRule}
 use Rattle.bodies.specs.declared.Verdict.{Verdict}
 use Rattle.bodies.specs.Bodies.{valuesNumber, marksAt, WindowTold}
@@ -33,29 +33,29 @@ numbersIn-front (w ∷ ws) b rest e =
 
 module _ (body : List ℕ) (size : length body ≡ valuesLength) where
   abbrev words : List ℕ
-  words = take (marksAt - 4) (drop 4 body)
+  words = take (marksAt - countWidth) (drop countWidth body)
 
   abbrev rest : List ℕ
   rest = drop marksAt body
 
-  words-are : numbersIn (replicate places 4) words ≡ numbersIn (replicate places 4) (drop 4 body)
+  words-are : numbersIn (replicate places 4) words ≡ numbersIn (replicate places 4) (drop countWidth body)
   words-are =
-      sym (numbersIn-front (replicate places 4) words (drop (marksAt - 4) (drop 4 body)) (simp (length-take, length-drop) (omega arith)))
-      ∙ ap (numbersIn (replicate places 4)) (take-append-drop (marksAt - 4) (drop 4 body))
+      sym (numbersIn-front (replicate places 4) words (drop (marksAt - countWidth) (drop countWidth body)) (simp (length-take, length-drop) (omega arith)))
+      ∙ ap (numbersIn (replicate places 4)) (take-append-drop (marksAt - countWidth) (drop countWidth body))
 
-  marks-are : take (valuesLength - marksAt) rest ≡ numbersIn (replicate places 1) (drop (marksAt - 4) (drop 4 body))
+  marks-are : take (valuesLength - marksAt) rest ≡ numbersIn (replicate places 1) (drop (marksAt - countWidth) (drop countWidth body))
   marks-are =
       let long : length rest ≡ places = simp length-drop (omega arith) in
       let ones : numbersIn (replicate places 1) rest ≡ rest = rw long at (numbersIn-ones rest) in
-      take-all (valuesLength - marksAt) rest (omega arith) ∙ (sym ones ∙ ap (numbersIn (replicate places 1)) (sym (drop-drop (marksAt - 4) 4 body)))
+      take-all (valuesLength - marksAt) rest (omega arith) ∙ (sym ones ∙ ap (numbersIn (replicate places 1)) (sym (drop-drop (marksAt - countWidth) countWidth body)))
 
-  numbers-are : numberOf (take 4 body) ∷ (numbersIn (replicate places 4) words ++ take (valuesLength - marksAt) rest) ≡ numbersIn valuesWidths body
+  numbers-are : numberOf (take countWidth body) ∷ (numbersIn (replicate places 4) words ++ take (valuesLength - marksAt) rest) ≡ numbersIn valuesWidths body
   numbers-are =
-      ap (numberOf (take 4 body) ∷_)
-      (ap₂ _++_ words-are marks-are ∙ sym (numbersIn-append (replicate places 4) (replicate places 1) (drop 4 body)))
+      ap (numberOf (take countWidth body) ∷_)
+      (ap₂ _++_ words-are marks-are ∙ sym (numbersIn-append (replicate places 4) (replicate places 1) (drop countWidth body)))
 
   told : (s : Settings) (whole : Bool) {v n : ℕ} {w marks : List ℕ} {verdict : Verdict} →
-      v ≡ numberOf (take 4 body) → w ≡ numbersIn (replicate places 4) words → marks ≡ take (valuesLength - marksAt) rest → n ≡ windowLength s →
+      v ≡ numberOf (take countWidth body) → w ≡ numbersIn (replicate places 4) words → marks ≡ take (valuesLength - marksAt) rest → n ≡ windowLength s →
       (r : Bool) → r ≡ passes (valuesRule n (flag whole) (v ∷ (w ++ marks))) → valuesNumber verdict ≡ number-by r →
       WindowTold s whole body (record { verdict = verdict; count = v; window = w; marks = marks })
   told s whole {v} {n} {w} {marks} v-is w-is marks-is n-is r e number =

@@ -6,7 +6,7 @@ use Rattle.image_vectors.proofs.main.Statement.{statement}
 use Rattle.image_vectors.proofs.main.Tie as tie
 
 abbrev Inv-loop : tie.InvT-loop
-Inv-loop good image₀ vector₀ left₀ image vector left = (length image ≡ 784) × (length vector ≡ 14)
+Inv-loop good image₀ vector₀ left₀ image vector left = (length image ≡ 808) × (length vector ≡ 14)
 
 abbrev μ-loop : tie.MeasureT-loop
 μ-loop good image₀ vector₀ left₀ image vector left = left
