@@ -240,8 +240,8 @@ uint32_t pq_count_day(const uint8_t *settings, size_t settings_length,
  * - 19: an image that its own edition refuses, with 8 to 11; or bytes that are not whole records of
  *   their edition, each with kind 1 to 4, mark 0 or 1 and two bytes of 0. No bytes at all are no
  *   records, and good;
- * - 18, only going back: a number above 4294967295; in an image exactly if V is, since k and starts
- *   are at most V; in records a start or a duration;
+ * - 18, only going back: a number above 4294967295; in an image exactly if V is, since no other
+ *   count is above V; in records a start or a duration;
  * - 7: the second buffer has fewer bytes than are to be written. */
 
 /* Records: n bytes, 20 each, become 28 x (n / 20) bytes. Returns 0, 19 or 7. */

@@ -84,10 +84,12 @@ class Channel:
         state = read(self.state)
         if len(state) != 820:
             return
-        convert, image = os.path.join(os.path.dirname(os.path.abspath(self.program)), "convert"), self.state + ".image"
-        subprocess.run([convert, "image", "--back", write(image, state[:788]), image], check=True)
-        earlier, checksum = read(image) + state[788:-8], 14695981039346656037
+        convert = os.path.join(os.path.dirname(os.path.abspath(self.program)), "convert")
+        image, back = self.state + ".image", self.state + ".back"
+        subprocess.run([convert, "image", "--back", write(image, state[:788]), back], check=True)
+        earlier, checksum = read(back) + state[788:-8], 14695981039346656037
         for byte in earlier:
             checksum = (checksum ^ byte) * 1099511628211 % 2**64
         write(self.state, earlier + checksum.to_bytes(8, "little"))
         os.remove(image)
+        os.remove(back)

@@ -53,6 +53,7 @@ pub const COUNT_WIDTH: usize = 8;
 // Body 3: V, 120 places for values, and as many for their marks.
 const MARKS_AT: usize = COUNT_WIDTH + 4 * 120;
 
+// The places of values and marks, behind V.
 pub const PLACES_LENGTH: usize = 4 * 120 + 120;
 
 const VALUES_LENGTH: usize = COUNT_WIDTH + PLACES_LENGTH;

@@ -72,7 +72,8 @@ recordsRefusal from to b lent =
 unfoldable pub recordsConverted : ℕ → ℕ → List ℕ → List ℕ → Converted
 recordsConverted from to b lent = convertedBy (recordsRefusal from to b lent) (recordsAs from to b) lent
 
--- an image in another edition, with the same numbers where they fit: its own table; settings and gatherer, whose widths are the same in both; the values and the events
+-- an image in another edition, with the same numbers where they fit: its own table; settings and gatherer, whose widths are the same in both; the values and
+-- the events
 abbrev pub imageAs : ℕ → ℕ → List ℕ → List ℕ
 imageAs from to b =
     tableWith to

@@ -49,7 +49,7 @@ imageForth b = imageRefusal earlierWidth countWidth b (replicate 788 7)
 abbrev pub imageBack : List ℕ → ℕ
 imageBack b = imageRefusal countWidth earlierWidth b (replicate 764 7)
 
--- records of both editions, one with a start or a duration that is too wide for the earlier one
+-- a good record of an edition, and one of this edition with a start and a duration
 abbrev pub good : ℕ → List ℕ
 good c = recordBytesWith c (recordAs 4 151 1 ∷ [])
 

@@ -47,7 +47,7 @@ impl Logger {
         }
     }
 
-    // A logger that has taken no sample, of settings that were read.
+    // A logger that has taken no sample, of settings that start accepts.
     pub fn fresh(settings: Settings) -> Logger
         requires { ⌜ ValidSettings settings ⌝ }
         ensures { λ r. ⌜ (r .state ≡ freshOf settings) × ValidState (r .state) ⌝ }
