@@ -111,5 +111,7 @@ pub record ConversionReadings : Type 0 where
       ≡ convertedTo 19 (7 ∷ []) ∷ convertedTo 18 (7 ∷ []) ∷ convertedTo 7 (replicate 19 7) ∷ []
   pub image-in-order :
       imageRefusal countWidth earlierWidth (changed 100 8 (2 ^ 63)) [] ∷ imageRefusal countWidth earlierWidth (changed 100 8 (2 ^ 32)) []
-      ∷ imageRefusal countWidth earlierWidth changingImage (replicate 763 7) ∷ imageRefusal earlierWidth countWidth changingImage [] ∷ imageRefusal earlierWidth countWidth earlierImage (replicate 787 7) ∷ []
+      ∷ imageRefusal countWidth earlierWidth changingImage (replicate 763 7)
+      ∷ imageRefusal earlierWidth countWidth changingImage []
+      ∷ imageRefusal earlierWidth countWidth earlierImage (replicate 787 7) ∷ []
       ≡ 19 ∷ 18 ∷ 7 ∷ 19 ∷ 7 ∷ []

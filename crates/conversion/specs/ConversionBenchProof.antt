@@ -79,7 +79,9 @@ in-order-is = refl
 
 image-in-order-is :
     imageRefusal countWidth earlierWidth (changed 100 8 (2 ^ 63)) [] ∷ imageRefusal countWidth earlierWidth (changed 100 8 (2 ^ 32)) []
-    ∷ imageRefusal countWidth earlierWidth changingImage (replicate 763 7) ∷ imageRefusal earlierWidth countWidth changingImage [] ∷ imageRefusal earlierWidth countWidth earlierImage (replicate 787 7) ∷ []
+    ∷ imageRefusal countWidth earlierWidth changingImage (replicate 763 7)
+    ∷ imageRefusal earlierWidth countWidth changingImage []
+    ∷ imageRefusal earlierWidth countWidth earlierImage (replicate 787 7) ∷ []
     ≡ 19 ∷ 18 ∷ 7 ∷ 19 ∷ 7 ∷ []
 unfolding restoreRefusalWith startRefusal settingsRefusal
 image-in-order-is = refl
