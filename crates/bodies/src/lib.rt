@@ -1,5 +1,7 @@
 // The sections of an image, each written into its own part of the lent bytes and read from it: the table of contents, and the bodies of the gatherer, the
 // window and the detector. (The settings write and read themselves.)
+#![tactic(auto)]
+
 ghost use Rattle.std.specs.Prelude.{◌≡◌, ◌∷◌, ◌++◌, ◌+◌, ◌*◌, ◌≤◌, length};
 ghost use Rattle.octets.specs.Bytes.{row, numbers_in};
 ghost use Rattle.reading.specs.Layout.{table_length, gatherer_widths, gatherer_length, values_widths, values_length, events_widths, events_length};
@@ -16,20 +18,20 @@ use settings::Settings;
 use threshold::Standing;
 
 // Whether a section is good.
-#[derive(Drop)]
+#[derive(Clone, Copy)]
 pub enum Verdict {
     Good,
     Bad,
 }
 
-#[derive(Drop)]
+#[derive(Clone, Copy)]
 pub enum GathererRead {
     Read(Gatherer),
     Refused,
 }
 
 // An enum that held the places would have its functions proved by hand: the answer stands beside what was read.
-#[derive(Drop)]
+#[derive(Clone, Copy)]
 pub struct WindowRead {
     pub verdict: Verdict,
     pub count: u64,
@@ -37,7 +39,7 @@ pub struct WindowRead {
     pub marks: [u8; 120],
 }
 
-#[derive(Drop)]
+#[derive(Clone, Copy)]
 pub enum DetectorRead {
     Read(Detector),
     Refused,

@@ -1,5 +1,7 @@
 // What the programs that make lists of calls share: the items of standard input, each 6 bytes and then as many bytes as they say (the table is in
 // call_lists/src/main.rt), and the lines that answers are printed in. No contract can say what is read or written.
+#![tactic(auto)]
+
 ghost use Rattle.std.specs.Prelude.{◌≡◌, ◌++◌, ◌*◌, ◌≤◌, ◌<◌, length, drop, replicate};
 ghost use Rattle.call_items.specs.Items.{no_item, NextItem, digit_of, hex_of};
 
@@ -26,7 +28,7 @@ pub const MOST_SAMPLES: usize = 32767;
 // The lists that are made, at most.
 pub const LISTS: u32 = 1_000_000;
 
-#[derive(Drop)]
+#[derive(Clone, Copy)]
 pub struct Item {
     pub kind: u8,
     pub fill: u8,

@@ -21,6 +21,8 @@
 // sixteen. Samples are low byte first; a last odd byte is none. The first 16 accepted saves of a list are kept, and named by their place among them; the
 // restore of another prints `none`. A gather with a half-cycle of 0 samples or of more than 256 is skipped, and so is an item of another kind in a list. The
 // program ends with the input, or where a start should stand and does not.
+#![tactic(auto)]
+
 ghost use Rattle.std.specs.Prelude.{◌≡◌, ◌*◌, ◌≤◌, ◌<◌, length};
 ghost use Rattle.rms.specs.Gather.{gathered, ValidGatherer};
 ghost use Rattle.state.specs.State.{ValidState};
@@ -46,14 +48,14 @@ const TRIAL: u8 = 7;
 const PLACES: usize = 16;
 
 // What the calls of a list leave: the logger, and how many of its saves are kept.
-#[derive(Drop)]
+#[derive(Clone, Copy)]
 struct List {
     logger: Logger,
     kept: usize,
 }
 
 // What samples leave of a fresh gatherer, and how many half-cycles they ended.
-#[derive(Drop)]
+#[derive(Clone, Copy)]
 struct Counted {
     gatherer: Gatherer,
     halves: usize,

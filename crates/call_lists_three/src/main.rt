@@ -10,6 +10,8 @@
 // A list is a start and its calls; a refused start has none. Each answer is a line, with a space between words; numbers are in base ten, buffers in base
 // sixteen. Samples are low byte first, in turn a, b, c; a last odd byte is none. An item of another kind in a list is skipped. The program ends with the input,
 // or where a start should stand and does not.
+#![tactic(auto)]
+
 ghost use Rattle.std.specs.Prelude.{◌≡◌, ◌≤◌, length};
 ghost use Rattle.three_state.specs.ThreeState.{ValidThree};
 

@@ -1,5 +1,7 @@
 // 02's converter: carries records and images from the earlier edition to this one, and back. An edition is known by how many bytes its counts of values take:
 // V, k, the fourth number of a change, every start and duration.
+#![tactic(auto)]
+
 ghost use Rattle.std.specs.Prelude.{◌≡◌, ◌^◌, ◌≤◌, length};
 ghost use Rattle.octets.specs.Bytes.{row, numbers_in, total};
 ghost use Rattle.numbers.specs.Notation.{◌<ᵇ◌};
@@ -22,7 +24,7 @@ const EARLIER_MOST: u64 = 4_294_967_295;
 const EARLIER_IMAGE_LENGTH: usize = VALUES_AT + PLACES_LENGTH + 10 * 4 + 6 * EARLIER_WIDTH;
 
 // Of records: whether each is one, and whether the other edition's widths hold its numbers.
-#[derive(Drop)]
+#[derive(Clone, Copy)]
 struct Tested {
     good: bool,
     fit: bool,

@@ -1,4 +1,6 @@
 // How many rapid voltage changes a day has, of those that network contracts cap: 02's count per day.
+#![tactic(auto)]
+
 ghost use Rattle.std.specs.Prelude.{◌≡◌, ◌*◌, ◌^◌, ◌≤◌, ◌<◌};
 ghost use Rattle.settings.specs.Settings.{window_length_of};
 ghost use Rattle.reading.specs.Records.{events_of};
@@ -19,28 +21,28 @@ const CAP: u64 = 24;
 const CAP_ABOVE: u64 = 12;
 
 // A count of rapid voltage changes, and whether it is over its cap.
-#[derive(Drop)]
+#[derive(Clone, Copy)]
 pub struct Capped {
     pub count: u64,
     pub over: bool,
 }
 
 // What a day has: the changes whose second magnitude is at least 3 % of the declared voltage, and those whose first is above 5 %.
-#[derive(Drop)]
+#[derive(Clone, Copy)]
 pub struct DayCount {
     pub second: Capped,
     pub first: Capped,
 }
 
 // A day's count, or 02's number of the refusal.
-#[derive(Drop)]
+#[derive(Clone, Copy)]
 pub enum Counted {
     Day(DayCount),
     Refused(u32),
 }
 
 // Of records: how many count by their second magnitude, how many by their first, and whether all kinds are 1 to 4.
-#[derive(Drop)]
+#[derive(Clone, Copy)]
 struct Tally {
     second: u64,
     first: u64,

@@ -1,4 +1,6 @@
 // One value: what is kept of the values beside the window, after it, and the records due at it.
+#![tactic(auto)]
+
 ghost use Rattle.std.specs.Prelude.{◌≡◌, ◌≤◌, ◌<◌, length};
 ghost use Rattle.numbers.specs.Notation.{◌<ᵇ◌, if◌then◌else◌};
 ghost use Rattle.threshold.specs.Standing.{begins_at, ends_at, stepped};
@@ -16,7 +18,7 @@ use threshold::Standing;
 use window::Sums;
 
 // What is kept of the values beside the window: their count, the events that stand, and the phase.
-#[derive(Drop)]
+#[derive(Clone, Copy)]
 pub struct Detector {
     pub count: u64,
     pub dip: Standing,
@@ -26,7 +28,7 @@ pub struct Detector {
 }
 
 // The detector after a value, the records due at it, and the sums of the window with it.
-#[derive(Drop)]
+#[derive(Clone, Copy)]
 pub struct Tried {
     pub after: Detector,
     pub due: Due,
@@ -34,7 +36,7 @@ pub struct Tried {
 }
 
 // A value as it joins a window, and the sums of the window with it.
-#[derive(Drop)]
+#[derive(Clone, Copy)]
 pub struct Joined {
     pub joining: Joining,
     pub sums: Sums,

@@ -1,5 +1,7 @@
 // What event programs share: the text of records and of the last line, standard input and output, and what is told on standard error. There each line begins
 // with `name`: the program's name, a colon and a space, 32 bytes at most. No contract can say what is read or written.
+#![tactic(auto)]
+
 ghost use Rattle.std.specs.Prelude.{◌≡◌, ◌&&◌, ◌+◌, ◌*◌, ◌≤◌, length};
 ghost use Rattle.io.specs.Counts.{IsPrefixLen};
 ghost use Rattle.numbers.specs.Notation.{◌≡ᵇ◌};
@@ -27,7 +29,7 @@ const CHANGING: u8 = 3;
 
 // What the samples leave: the number of values, the events that stand and the phase, as look tells them, and why no more are taken: 0 all are, 2 V is at its
 // end.
-#[derive(Drop)]
+#[derive(Clone, Copy)]
 pub struct Ending {
     pub count: u64,
     pub dip: bool,
@@ -38,7 +40,7 @@ pub struct Ending {
 }
 
 // What a program begins with: its settings; or nothing, where they are not read, or refused.
-#[derive(Drop)]
+#[derive(Clone, Copy)]
 pub enum Begun {
     With(Settings),
     Nothing,

@@ -1,5 +1,7 @@
 // The event program: settings, then samples, from standard input; a line for each record, and the number of values, to standard output. What fails, and what has
 // not ended, goes to standard error.
+#![tactic(auto)]
+
 ghost use Rattle.std.specs.Prelude.{◌≡◌, ◌≤◌, length};
 ghost use Rattle.settings.specs.Settings.{ValidSettings};
 ghost use Rattle.samples.specs.Samples.{samples_of};
@@ -23,14 +25,14 @@ const CHUNK_BYTES: usize = 2 * CHUNK;
 const RECORDS: usize = 64;
 
 // The logger after samples, and why it took no more: 0 all taken, 2 V is at its end.
-#[derive(Drop)]
+#[derive(Clone, Copy)]
 struct FedAll {
     logger: Logger,
     why: u32,
 }
 
 // The same, and whether all its lines were printed.
-#[derive(Drop)]
+#[derive(Clone, Copy)]
 struct Turn {
     fed: FedAll,
     printed: bool,

@@ -1,5 +1,7 @@
 // The event program of a three-phase logger: settings, then samples in turn a, b, c, from standard input; a line for each record, and the number of joint values,
 // to standard output. What fails, and what has not ended, goes to standard error.
+#![tactic(auto)]
+
 ghost use Rattle.std.specs.Prelude.{◌≡◌, ◌%◌, ◌≤◌, length};
 ghost use Rattle.settings.specs.Settings.{ValidSettings};
 ghost use Rattle.samples.specs.Samples.{samples_of};
@@ -25,14 +27,14 @@ const CHUNK_BYTES: usize = 2 * CHUNK;
 const RECORDS: usize = 64;
 
 // The logger after samples, and why it took no more: 0 all taken, 2 V is at its end.
-#[derive(Drop)]
+#[derive(Clone, Copy)]
 struct FedAll {
     logger: ThreeLogger,
     why: u32,
 }
 
 // The same, and whether all its lines were printed.
-#[derive(Drop)]
+#[derive(Clone, Copy)]
 struct Turn {
     fed: FedAll,
     printed: bool,

@@ -1,4 +1,6 @@
 // Feed: a block of samples, half-cycle by half-cycle. Each is taken with the records due at its value, or it is not taken, nothing changes, and the feed ends.
+#![tactic(auto)]
+
 ghost use Rattle.std.specs.Prelude.{◌≡◌, ◌+◌, ◌*◌, ◌^◌, ◌≤◌, length};
 ghost use Rattle.rms.specs.Gather.{part_of};
 ghost use Rattle.state.specs.State.{state_with, ValidState};
@@ -13,7 +15,7 @@ use settings::{Scaled, Settings};
 use window::Sums;
 
 // What the end of a half-cycle leaves of the logger beside the window, the window's sums, how many records were written, and why it was not taken, or 0.
-#[derive(Drop)]
+#[derive(Clone, Copy)]
 struct Half {
     gatherer: Gatherer,
     detector: Detector,
@@ -23,7 +25,7 @@ struct Half {
 }
 
 // What a walk leaves of the logger beside the window, and what feed tells.
-#[derive(Drop)]
+#[derive(Clone, Copy)]
 pub struct Walked {
     pub gatherer: Gatherer,
     pub detector: Detector,

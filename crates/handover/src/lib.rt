@@ -1,4 +1,6 @@
 // Demands 2 and 3, of `logger_calls`; and the calls themselves, each with the equation that the claim reads it by.
+#![tactic(auto)]
+
 ghost use Rattle.std.specs.Prelude.{◌≡◌};
 ghost use Rattle.reading.specs.Calls.{trial_to};
 ghost use Rattle.state.specs.State.{ValidState};

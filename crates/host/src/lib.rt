@@ -1,5 +1,7 @@
 // The calls for a host program in C, on byte slices: begin and advance of 01, 02's trial, count per day and converter. Each returns 0 or the number of the
 // refusal.
+#![tactic(auto)]
+
 ghost use Rattle.std.specs.Prelude.{◌≡◌, not, ◌≤◌, min, length};
 ghost use Rattle.octets.specs.Bytes.{row, total};
 ghost use Rattle.numbers.specs.Notation.{◌≡ᵇ◌};

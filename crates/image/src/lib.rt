@@ -1,4 +1,6 @@
 // The image of a logger's state: a table of contents and four bodies, each in its own part.
+#![tactic(auto)]
+
 ghost use Rattle.std.specs.Prelude.{◌≡◌};
 ghost use Rattle.numbers.specs.Answers.{refusal_in};
 ghost use Rattle.image.specs.Image.{save_answer, saved_bytes, acceptance_told, restored_to, refused_by, restored_by};
@@ -11,7 +13,7 @@ use settings::{Settings, SettingsRead};
 use state::State;
 
 // Restore's answer: accepted, or 01's number of the refusal.
-#[derive(Drop)]
+#[derive(Clone, Copy)]
 pub enum Acceptance {
     Accepted,
     Refused(u32),
@@ -30,7 +32,7 @@ impl Acceptance {
 }
 
 // The answer, beside the state that it leaves.
-#[derive(Drop)]
+#[derive(Clone, Copy)]
 pub struct Restored {
     pub answer: Acceptance,
     pub state: State,

@@ -1,5 +1,7 @@
 // Restores each image of a file of vectors, and prints 01's number for it, 0 where it is accepted. The file has a good image, then changes to it of 14 bytes each
 // (outside/image_vectors.py).
+#![tactic(auto)]
+
 ghost use Rattle.std.specs.Prelude.{◌≡◌, ◌≤◌, length};
 ghost use Rattle.reading.specs.Layout.{image_length};
 

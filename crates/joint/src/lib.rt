@@ -1,4 +1,6 @@
 // One value of each of three channels: what is kept of them beside the windows, after it, and the records due at it.
+#![tactic(auto)]
+
 ghost use Rattle.std.specs.Prelude.{◌≡◌, ◌≤◌};
 ghost use Rattle.three_reading.specs.Three.Channel.{on_a, on_b, on_c};
 ghost use Rattle.three_reading.specs.JointEvents.{worst as worst_of};
@@ -15,7 +17,7 @@ use threshold::{Ended, Standing};
 use window::Sums;
 
 // The values of three channels, and whether one of them is clipped.
-#[derive(Drop)]
+#[derive(Clone, Copy)]
 pub struct Values {
     pub a: u32,
     pub b: u32,
@@ -25,14 +27,14 @@ pub struct Values {
 
 // What is kept of one channel's values beside its window: its phase under the joint signal, and its own signal. Here and below the order of the fields is for
 // speed: what lies behind a tag or a bool is copied by pieces.
-#[derive(Drop)]
+#[derive(Clone, Copy)]
 pub struct Own {
     pub phase: Phase,
     pub signal: Signal,
 }
 
 // What is kept of the values of all three: what is kept of each channel, their count, and the joint events that stand.
-#[derive(Drop)]
+#[derive(Clone, Copy)]
 pub struct Joint {
     pub a: Own,
     pub b: Own,
@@ -44,7 +46,7 @@ pub struct Joint {
 }
 
 // The sums of the three windows, and how many of their joint values are clipped.
-#[derive(Drop)]
+#[derive(Clone, Copy)]
 pub struct JointSums {
     pub a: u64,
     pub b: u64,
@@ -53,7 +55,7 @@ pub struct JointSums {
 }
 
 // What is kept after a value of each channel, the records due at it, and the sums of the windows with it.
-#[derive(Drop)]
+#[derive(Clone, Copy)]
 pub struct JointTried {
     pub after: Joint,
     pub due: Due,
@@ -121,7 +123,7 @@ impl JointSums {
 }
 
 // The joint events after a value.
-#[derive(Drop)]
+#[derive(Clone, Copy)]
 struct Standings {
     dip: Standing,
     swell: Standing,
@@ -129,7 +131,7 @@ struct Standings {
 }
 
 // A value that joins its channel's window, the sums of the window with it, and the own signal at it.
-#[derive(Drop)]
+#[derive(Clone, Copy)]
 struct Entering {
     joining: Joining,
     sums: Sums,
@@ -137,7 +139,7 @@ struct Entering {
 }
 
 // The same of each channel.
-#[derive(Drop)]
+#[derive(Clone, Copy)]
 struct Entered {
     a: Entering,
     b: Entering,
@@ -145,14 +147,14 @@ struct Entered {
 }
 
 // What a value leaves of one channel, and the record of a change that ends with it, as that channel has it.
-#[derive(Drop)]
+#[derive(Clone, Copy)]
 struct OwnMoved {
     own: Own,
     ended: Ended,
 }
 
 // The same of each channel.
-#[derive(Drop)]
+#[derive(Clone, Copy)]
 struct AllMoved {
     a: OwnMoved,
     b: OwnMoved,

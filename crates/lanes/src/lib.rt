@@ -1,4 +1,6 @@
 // A block of triples by channels: each channel's samples side by side, and the part of a half-cycle that they are.
+#![tactic(auto)]
+
 ghost use Rattle.std.specs.Prelude.{◌≡◌, ◌*◌, ◌%◌, ◌≤◌, ◌<◌, length};
 ghost use Rattle.three_reading.specs.Three.{triples_of, channel};
 ghost use Rattle.three_reading.specs.Three.Channel.{on_a, on_b, on_c};

@@ -1,4 +1,6 @@
 // The logger: a block of samples in, records out; a block tried; its readings; its image saved and restored.
+#![tactic(auto)]
+
 ghost use Rattle.std.specs.Prelude.{◌≡◌};
 ghost use Rattle.settings.specs.Settings.{ValidSettings};
 ghost use Rattle.reading.specs.Calls.{trial_to};
@@ -13,27 +15,27 @@ use settings::{Settings, SettingsRead};
 use state::State;
 
 // A logger. Start, fresh, restore and resume alone make one, and each call keeps it valid.
-#[derive(Drop)]
+#[derive(Clone, Copy)]
 pub struct Logger {
     state: State,
 }
 
 // What start yields, or tells.
-#[derive(Drop)]
+#[derive(Clone, Copy)]
 pub enum Started {
     Yielded(Logger),
     Refused(u32),
 }
 
 // What feed leaves and tells.
-#[derive(Drop)]
+#[derive(Clone, Copy)]
 pub struct Fed {
     pub logger: Logger,
     pub told: Told,
 }
 
 // What restore leaves and tells.
-#[derive(Drop)]
+#[derive(Clone, Copy)]
 pub struct Resumed {
     pub logger: Logger,
     pub answer: Acceptance,

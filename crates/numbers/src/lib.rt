@@ -1,4 +1,6 @@
 // Plain numbers: a difference that stops at 0, a yes or no. In specs/: what the readings are written with: tests and choices, answers, rules.
+#![tactic(auto)]
+
 ghost use Rattle.std.specs.Prelude.{◌≡◌, ◌-◌};
 ghost use Rattle.numbers.specs.Notation.{flag as flag_of};
 

@@ -1,4 +1,6 @@
 // Numbers as bytes, lowest first, read from slices and written into them: one number, and rows of numbers of given widths.
+#![tactic(auto)]
+
 ghost use Rattle.std.specs.Prelude.{◌≡◌, ◌+◌, ◌*◌, ◌≤◌, length, take, drop};
 ghost use Rattle.octets.specs.Bytes.{bytes_of, number_of, row, numbers_in, total, Narrow, fours};
 

@@ -1,11 +1,13 @@
 // The plain data that the readings in specs/ speak of, and the promise of 01's bench readings.
+#![tactic(auto)]
+
 ghost use Rattle.reading.specs.Bench.{BenchReadings};
 
 // V's end, 2^63 − 1.
 pub const LAST_VALUE: u64 = 9_223_372_036_854_775_807;
 
 // The events that are told by a threshold.
-#[derive(Drop)]
+#[derive(Clone, Copy)]
 pub enum Kind {
     Dip,
     Swell,
@@ -13,7 +15,7 @@ pub enum Kind {
 }
 
 // An event that is over, as its record tells it, with the record's number for its kind.
-#[derive(Drop)]
+#[derive(Clone, Copy)]
 pub struct Event {
     pub kind: u8,
     pub start: u64,
@@ -23,7 +25,7 @@ pub struct Event {
 }
 
 // An event's record: the event, and whether a value from its start to the last one in its first magnitude is clipped.
-#[derive(Drop)]
+#[derive(Clone, Copy)]
 pub struct Record {
     pub event: Event,
     pub clipped: bool,
@@ -40,7 +42,7 @@ impl Event {
 }
 
 // What feed tells: the samples taken, the records written, and why no more: 0 all taken, 2 the next sample would pass V's end, 1 its records would not fit.
-#[derive(Drop)]
+#[derive(Clone, Copy)]
 pub struct Told {
     pub taken: usize,
     pub written: usize,
@@ -48,7 +50,7 @@ pub struct Told {
 }
 
 // What look tells: the count of values, the newest one and the sum of the window, 0 where there is none; the phase's number; the events that stand.
-#[derive(Drop)]
+#[derive(Clone, Copy)]
 pub struct Readings {
     pub count: u64,
     pub value: u64,

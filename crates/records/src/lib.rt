@@ -1,4 +1,6 @@
 // A record in bytes, and the records due at one value.
+#![tactic(auto)]
+
 ghost use Rattle.std.specs.Prelude.{◌≡◌, [], ◌∷◌, ◌+◌, ◌*◌, ◌≤◌, length};
 ghost use Rattle.reading.specs.Records.{record_bytes, event_of};
 ghost use Rattle.reading.specs.Engineer.{over};
@@ -15,7 +17,7 @@ pub const RECORD_LENGTH: usize = 28;
 const WIDTHS: [u8; 7] = [1, 1, 2, 8, 8, 4, 4];
 
 // The records due at one value, by kind.
-#[derive(Drop)]
+#[derive(Clone, Copy)]
 pub struct Due {
     pub dip: Ended,
     pub swell: Ended,

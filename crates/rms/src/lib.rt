@@ -1,18 +1,20 @@
 // From samples to values: parts of a half-cycle, the integer root, the RMS value of two half-cycles, and the gatherer of half-cycles.
+#![tactic(auto)]
+
 ghost use Rattle.std.specs.Prelude.{◌≡◌, ◌+◌, ◌*◌, ◌/◌, ◌^◌, ◌<◌, ◌≤◌, true, length, take, pos, slice_index_or};
 ghost use Rattle.reading.specs.Values.{root as root_of, rms};
 ghost use Rattle.rms.specs.Roots.{roots_from};
 ghost use Rattle.rms.specs.Gather.{squared_of, part_of, pair_with, no_sample, with_part, with_half, cut as cut_of, gathered, ValidGatherer};
 
 // A sample's square, and whether the sample is clipped.
-#[derive(Drop)]
+#[derive(Clone, Copy)]
 pub struct Squared {
     pub square: u32,
     pub clipped: bool,
 }
 
 // A part of a half-cycle: how many samples, the sum of their squares, and whether one is clipped.
-#[derive(Drop)]
+#[derive(Clone, Copy)]
 pub struct Part {
     pub count: u32,
     pub squares: u64,
@@ -31,7 +33,7 @@ pub fn square(sample: i16) -> Squared
 }
 
 // Two neighbours of every eight samples: the sum of the squares of both, and a mark for each.
-#[derive(Drop)]
+#[derive(Clone, Copy)]
 struct Pair {
     squares: u64,
     left: bool,
@@ -189,14 +191,14 @@ pub fn rms_value(half_length: u32, first: u64, second: u64, near: u32) -> u32
 }
 
 // A value in sixteenths of a count, and whether one of its samples is clipped.
-#[derive(Drop)]
+#[derive(Clone, Copy)]
 pub struct Marked {
     pub value: u32,
     pub clipped: bool,
 }
 
 // What is kept of the samples.
-#[derive(Drop)]
+#[derive(Clone, Copy)]
 pub struct Gatherer {
     // Of the half-cycle in progress: how many samples, and the sum of their squares.
     pub count: u32,
@@ -210,14 +212,14 @@ pub struct Gatherer {
 }
 
 // How many of the samples to come belong to the half-cycle in progress, and whether the last of them ends it.
-#[derive(Drop)]
+#[derive(Clone, Copy)]
 pub struct Share {
     pub count: usize,
     pub completes: bool,
 }
 
 // What one sample more gives: the gatherer, and whether the sample ended a half-cycle.
-#[derive(Drop)]
+#[derive(Clone, Copy)]
 pub struct Gathered {
     pub gatherer: Gatherer,
     pub completed: bool,

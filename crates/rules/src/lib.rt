@@ -1,4 +1,6 @@
 // Refusal 11 in code: whether the numbers of an image's bodies keep the rules. Each test answers what the rule's own test answers.
+#![tactic(auto)]
+
 ghost use Rattle.std.specs.Prelude.{◌≡◌, not, ◌&&◌, ◌||◌, ◌∷◌, ◌++◌, ◌+◌, ◌≤◌, min, length};
 ghost use Rattle.numbers.specs.Notation.{◌≤ᵇ◌, ◌<ᵇ◌, ◌≡ᵇ◌, flag};
 ghost use Rattle.numbers.specs.Rules.{passes};

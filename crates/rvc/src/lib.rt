@@ -1,4 +1,6 @@
 // Rapid voltage changes: the steady signal, the phase with what a change in progress carries, and one value's step of each.
+#![tactic(auto)]
+
 ghost use Rattle.std.specs.Prelude.{◌≡◌, ◌||◌, ◌*◌, ◌≤◌, max};
 ghost use Rattle.numbers.specs.Notation.{◌<ᵇ◌, ◌≡ᵇ◌, if◌then◌else◌};
 ghost use Rattle.reading.specs.Changes.{gap};
@@ -10,7 +12,7 @@ use settings::Scaled;
 use threshold::Ended;
 
 // The steady signal, with what must be kept of it: fewer than N values; never yet true; true; false since value k.
-#[derive(Drop)]
+#[derive(Clone, Copy)]
 pub enum Signal {
     Filling,
     Unsettled,
@@ -19,7 +21,7 @@ pub enum Signal {
 }
 
 // A change in progress.
-#[derive(Drop)]
+#[derive(Clone, Copy)]
 pub struct Change {
     // 01's k, the value at which the steady signal turned false.
     pub start: u64,
@@ -34,7 +36,7 @@ pub struct Change {
 }
 
 // Fewer than N values; never yet steady; steady; in a change.
-#[derive(Drop)]
+#[derive(Clone, Copy)]
 pub enum Phase {
     Filling,
     Unsettled,
@@ -43,7 +45,7 @@ pub enum Phase {
 }
 
 // The dips and swells at a value.
-#[derive(Drop)]
+#[derive(Clone, Copy)]
 pub struct Stands {
     // Whether one first stands at it.
     pub first: bool,
@@ -52,7 +54,7 @@ pub struct Stands {
 }
 
 // A value that joins the window.
-#[derive(Drop)]
+#[derive(Clone, Copy)]
 pub struct Joining {
     // Its number, from 1.
     pub number: u64,
@@ -68,7 +70,7 @@ pub struct Joining {
 }
 
 // The phase after a value, and the record of a change that ends with it, if one does.
-#[derive(Drop)]
+#[derive(Clone, Copy)]
 pub struct Moved {
     pub phase: Phase,
     pub ended: Ended,

@@ -1,4 +1,6 @@
 // Samples from bytes: low byte first, two's complement.
+#![tactic(auto)]
+
 ghost use Rattle.std.specs.Prelude.{◌≡◌, ◌*◌, length};
 ghost use Rattle.samples.specs.Samples.{sample_of, samples_of};
 

@@ -1,4 +1,6 @@
 // The settings: nine 4-byte numbers with the ranges that belong to them, from bytes and into bytes.
+#![tactic(auto)]
+
 ghost use Rattle.std.specs.Prelude.{◌≡◌, ◌*◌, ◌≤◌, ◌/◌, length};
 ghost use Rattle.numbers.specs.Rules.{passes, Holds};
 ghost use Rattle.settings.specs.Settings.{window_length_of, settings_length, settings_bytes, settings_of, settings_refusal, settings_read, settings_told};
@@ -6,7 +8,7 @@ ghost use Rattle.settings.specs.Settings.{scaled_of, ValidSettings};
 ghost use Rattle.settings.specs.Settings.{samples_rule, frequency_rule, declared_rule, limit_rule, levels_rule, order_rule};
 
 // In 01's order: M, F, U, T, H, I, D, W, G.
-#[derive(Drop)]
+#[derive(Clone, Copy)]
 pub struct Settings {
     // Samples in a half-cycle.
     pub samples: u32,
@@ -25,14 +27,14 @@ pub struct Settings {
 }
 
 // What settings bytes are: settings, or 01's number of the refusal.
-#[derive(Drop)]
+#[derive(Clone, Copy)]
 pub enum SettingsRead {
     Read(Settings),
     Refused(u32),
 }
 
 // Where an event begins and where it ends.
-#[derive(Drop)]
+#[derive(Clone, Copy)]
 pub struct Threshold {
     pub begins: u64,
     pub ends: u64,
@@ -41,7 +43,7 @@ pub struct Threshold {
 // The levels, times the declared voltage: 10,000 times a value is compared with them. The limit of a rapid voltage change: the greatest difference of a value
 // times the window length from the window's sum that is still calm; and what is taken off it in a change. As a difference, since the compiler would else work
 // the limit in force out again at every value.
-#[derive(Drop)]
+#[derive(Clone, Copy)]
 pub struct Scaled {
     pub dip: Threshold,
     pub swell: Threshold,

@@ -1,4 +1,6 @@
 // What a logger keeps: the settings, the gatherer, what is kept of the values, and the window of the last ones and of their marks. In specs/: what samples do to it.
+#![tactic(auto)]
+
 ghost use Rattle.std.specs.Prelude.{◌≡◌, ◌≤◌, length, take};
 ghost use Rattle.numbers.specs.Notation.{◌<ᵇ◌, if◌then◌else◌};
 ghost use Rattle.settings.specs.Settings.{ValidSettings};
@@ -11,7 +13,7 @@ use rms::Gatherer;
 use rvc::Phase;
 use settings::Settings;
 
-#[derive(Drop)]
+#[derive(Clone, Copy)]
 pub struct State {
     pub settings: Settings,
     pub gatherer: Gatherer,

@@ -1,9 +1,11 @@
 // Reading and writing in full, where a call that failed is told apart from the end of the input. A call that a signal interrupted, or that would have had to wait,
 // is made again: `io` takes the first for a failure, and a failure for the end. No contract can say what is read or written.
+#![tactic(auto)]
+
 ghost use Rattle.io.specs.Counts.{IsPrefixLen};
 
 // How many bytes were read, and whether a read failed. Fewer than asked and none failed: the input has ended.
-#[derive(Drop)]
+#[derive(Clone, Copy)]
 pub struct Got {
     pub count: usize,
     pub failed: bool,

@@ -1,4 +1,6 @@
 // The claim of three phases, of `three_calls`; and the calls themselves, each with the equation that the claim reads it by.
+#![tactic(auto)]
+
 ghost use Rattle.std.specs.Prelude.{◌≡◌};
 ghost use Rattle.three_state.specs.ThreeState.{ValidThree};
 ghost use Rattle.three_logger.specs.Logger.{three_started_told, ThreeYieldedValid, answer_told, three_fed_to};

@@ -1,4 +1,6 @@
 // Feed of a three-phase logger: a block of triples, half-cycle by half-cycle, all three channels at once.
+#![tactic(auto)]
+
 ghost use Rattle.std.specs.Prelude.{◌≡◌, ◌/◌, ◌%◌, ◌<◌, length};
 ghost use Rattle.rms.specs.Gather.{cut as cut_of};
 ghost use Rattle.three_reading.specs.Three.{triples_of, channel};
@@ -18,7 +20,7 @@ use three_half::HalfEnd;
 use three_state::Gatherers;
 
 // What a walk leaves of the logger beside the windows, and what it tells, in triples.
-#[derive(Drop)]
+#[derive(Clone, Copy)]
 pub struct ThreeWalked {
     pub gatherers: Gatherers,
     pub joint: Joint,

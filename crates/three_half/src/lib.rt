@@ -1,4 +1,6 @@
 // The end of a half-cycle of a three-phase logger: a part of each channel, the values that end with it, and their records.
+#![tactic(auto)]
+
 ghost use Rattle.std.specs.Prelude.{◌≡◌, ◌*◌, ◌^◌, ◌≤◌, ◌<◌, length};
 ghost use Rattle.reading.specs.Values.{rms};
 ghost use Rattle.joint.specs.Joint.{three_of, sizes_of, Small3, pushed_all};
@@ -14,7 +16,7 @@ use settings::{Scaled, Settings};
 use three_state::{Gatherers, Parts};
 
 // What the end of a half-cycle leaves of the logger beside the gatherers and the windows, the windows' sums, and how many records were written.
-#[derive(Drop)]
+#[derive(Clone, Copy)]
 pub struct Half {
     pub joint: Joint,
     pub sums: JointSums,
@@ -22,7 +24,7 @@ pub struct Half {
 }
 
 // It is taken, or not, and why. What stays as it was is not handed back: it would be copied at every half-cycle.
-#[derive(Drop)]
+#[derive(Clone, Copy)]
 pub enum HalfEnd {
     Taken(Half),
     Refused(u32),

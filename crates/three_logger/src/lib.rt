@@ -1,4 +1,6 @@
 // The three-phase logger: a block of samples in turn a, b, c in, records out; its readings.
+#![tactic(auto)]
+
 ghost use Rattle.std.specs.Prelude.{◌≡◌};
 ghost use Rattle.settings.specs.Settings.{ValidSettings};
 ghost use Rattle.three_state.specs.ThreeState.{three_fresh, ValidThree};
@@ -11,27 +13,27 @@ use three_reading::ThreeReadings;
 use three_state::ThreeState;
 
 // A three-phase logger. Start and fresh alone make one, and each call keeps it valid.
-#[derive(Drop)]
+#[derive(Clone, Copy)]
 pub struct ThreeLogger {
     state: ThreeState,
 }
 
 // What start yields, or tells.
-#[derive(Drop)]
+#[derive(Clone, Copy)]
 pub enum ThreeStarted {
     Yielded(ThreeLogger),
     Refused(u32),
 }
 
 // What feed answers: what it tells, or the refusal.
-#[derive(Drop)]
+#[derive(Clone, Copy)]
 pub enum FeedAnswer {
     Taken(Told),
     Refused(u32),
 }
 
 // What feed leaves and answers.
-#[derive(Drop)]
+#[derive(Clone, Copy)]
 pub struct ThreeFed {
     pub logger: ThreeLogger,
     pub answer: FeedAnswer,

@@ -1,8 +1,10 @@
 // The plain data that the readings of three channels in specs/ speak of, and the promise of their bench readings.
+#![tactic(auto)]
+
 ghost use Rattle.three_reading.specs.ThreeBench.{ThreeBenchReadings};
 
 // What look tells of one channel: the count of values, the newest one and the sum of the window, 0 where there is none.
-#[derive(Drop)]
+#[derive(Clone, Copy)]
 pub struct ChannelReadings {
     pub count: u64,
     pub value: u64,
@@ -10,7 +12,7 @@ pub struct ChannelReadings {
 }
 
 // What look tells: each channel's, the joint phase's number, and the joint events that stand.
-#[derive(Drop)]
+#[derive(Clone, Copy)]
 pub struct ThreeReadings {
     pub a: ChannelReadings,
     pub b: ChannelReadings,

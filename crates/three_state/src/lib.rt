@@ -1,5 +1,7 @@
 // What a three-phase logger keeps: the settings, a gatherer for each channel, what is kept of the values, a window for each channel, and the marks of the joint
 // values. In specs/: what triples do to it.
+#![tactic(auto)]
+
 ghost use Rattle.std.specs.Prelude.{◌≡◌, length};
 ghost use Rattle.settings.specs.Settings.{ValidSettings};
 ghost use Rattle.three_state.specs.ThreeState.{three_fresh, channel_readings_of, three_readings_of, ValidThree};
@@ -10,7 +12,7 @@ use settings::Settings;
 use three_reading::{ChannelReadings, ThreeReadings};
 
 // One gatherer for each channel.
-#[derive(Drop)]
+#[derive(Clone, Copy)]
 pub struct Gatherers {
     pub a: Gatherer,
     pub b: Gatherer,
@@ -18,14 +20,14 @@ pub struct Gatherers {
 }
 
 // A part of a half-cycle of each channel.
-#[derive(Drop)]
+#[derive(Clone, Copy)]
 pub struct Parts {
     pub a: Part,
     pub b: Part,
     pub c: Part,
 }
 
-#[derive(Drop)]
+#[derive(Clone, Copy)]
 pub struct ThreeState {
     pub settings: Settings,
     pub gatherers: Gatherers,

@@ -1,4 +1,6 @@
 // Dips, swells and interruptions: what is kept of each, and one value's step, the same for all three.
+#![tactic(auto)]
+
 ghost use Rattle.std.specs.Prelude.{◌≡◌, ◌≤◌, min, max};
 ghost use Rattle.threshold.specs.Standing.{begins_at, ends_at, worse, no_event, worsened, stepped, ended_at};
 
@@ -6,7 +8,7 @@ use reading::{Event, Kind, Record};
 use settings::Threshold;
 
 // What is kept of an event: its start, its magnitude so far, and whether one of its values is clipped. 0, 0 and false where none stands.
-#[derive(Drop)]
+#[derive(Clone, Copy)]
 pub struct Standing {
     pub start: u64,
     pub magnitude: u64,
@@ -14,7 +16,7 @@ pub struct Standing {
 }
 
 // The record of the event that is over with a value, if one is.
-#[derive(Drop)]
+#[derive(Clone, Copy)]
 pub enum Ended {
     Nothing,
     Over(Record),

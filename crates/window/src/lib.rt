@@ -1,4 +1,6 @@
 // The window of the last values and their marks, 120 places each, oldest first, with 0 in those not used yet.
+#![tactic(auto)]
+
 ghost use Rattle.std.specs.Prelude.{◌≡◌, ◌-◌, ◌<◌, ◌≤◌, min, length, slice_index};
 ghost use Rattle.numbers.specs.Notation.{all};
 ghost use Rattle.reading.specs.Changes.{sum as sum_of};
@@ -24,7 +26,7 @@ pub fn push(window: &mut [u32], window_length: usize, count: usize, value: u32)
 }
 
 // The sum of the window's values, and how many of them are clipped.
-#[derive(Drop)]
+#[derive(Clone, Copy)]
 pub struct Sums {
     pub values: u64,
     pub marks: u64,
