@@ -1,0 +1,53 @@
+-- The numbers are those of the body, so that `events_good` answers the reading's test of them.
+use mathlib.Core.Path.{◌≡◌, sym, ◌∙◌, ap}
+use mathlib.Core.Bool.{Bool}
+use mathlib.Core.List.{List}
+use Prim.Native.Nat.{ℕ}
+use borrow.Author.Tests.{not-true, not-false}
+use Rattle.octets.specs.Bytes.{numbers_in}
+use Rattle.numbers.specs.Notation.{refuse◌unless◌then◌}
+use Rattle.numbers.specs.Answers.{Answered, answered}
+use Rattle.numbers.specs.Answers.Answered.{accepted}
+use Rattle.numbers.specs.Rules.{passes}
+use Rattle.settings.specs.declared.Settings.{Settings}
+use Rattle.settings.specs.Settings.{window_length_of}
+use Rattle.reading.specs.Layout.{events_widths}
+use Rattle.reading.specs.Restore.{events_rule}
+use Rattle.rvc.specs.declared.Phase.{Phase}
+use Rattle.detection.specs.declared.Detector.{Detector}
+use Rattle.bodies.specs.Bodies.{standing_from, detector_from, detector_answer}
+use Rattle.bodies.proofs.read_detector.Goals.{After-events_good, After-events_numbers-numbers, Start}
+use Rattle.bodies.proofs.read_detector.Goals as goal
+
+abbrev with-phase : ℕ → List ℕ → Phase → Detector
+with-phase v ns q = record { count = v; dip = standing_from 5 11 ns; swell = standing_from 7 12 ns; interruption = standing_from 9 13 ns; phase = q }
+
+abbrev answer-by : Bool → ℕ → List ℕ → Answered Detector
+answer-by b v ns = answered (refuse 11 unless b then 0) (detector_from v ns)
+
+answer-is : (s : Settings) (v : ℕ) (body ns : List ℕ) {n : ℕ} (r : Bool) → ns ≡ numbers_in events_widths body → n ≡ window_length_of s → r ≡ passes (events_rule n v ns) →
+    answer-by r v ns ≡ detector_answer s v body
+unfolding detector_answer
+answer-is s v body ns r e n-is t = ap (λ (b : Bool). answer-by b v ns) t ∙ (λ i. answer-by (passes (events_rule (n-is i) v (e i))) v (e i))
+
+--! in a helper: c.before.before.before is After-events_numbers-numbers
+-- what `events_good` answered of them
+module _ (c : After-events_good) where
+  abbrev at_row : After-events_numbers-numbers
+  at_row = c
+  abbrev ns : List ℕ
+  ns = at_row.events_numbers.result
+  abbrev start : Start
+  start = at_row.before.before
+  abbrev v : ℕ
+  v = start.args.count
+  answer : answer-by c.events_good.result v ns ≡ detector_answer start.args.settings v start.args.part.now
+  answer = answer-is _ v _ ns _ at_row.events_numbers.ensures c.window_length.ensures.0 c.events_good.ensures
+
+pub returns-then-not-events_good : goal.returns-then-not-events_good
+returns-then-not-events_good c = ap (λ (b : Bool). answer-by b (v (goal.at.returns-then-not-events_good c).After-events_good) (ns (goal.at.returns-then-not-events_good c).After-events_good)) (sym (not-true c.events_good.result c.if-not-events_good.true)) ∙ answer (goal.at.returns-then-not-events_good c).After-events_good
+
+pub returns : goal.returns
+returns c =
+    ap (λ (q : Phase). accepted (with-phase (v (goal.at.returns c).After-events_good) (ns (goal.at.returns c).After-events_good) q)) c.phase_of-phase.ensures
+    ∙ (ap (λ (b : Bool). answer-by b (v (goal.at.returns c).After-events_good) (ns (goal.at.returns c).After-events_good)) (sym (not-false c.events_good.result c.if-not-events_good.false)) ∙ answer (goal.at.returns c).After-events_good)

@@ -1,0 +1,92 @@
+-- V, the values and the marks are the body's numbers, so that `values_good` answers the reading's test of them.
+use mathlib.Core.Path.{◌≡◌, refl, sym, ◌∙◌, ap, ap₂}
+use mathlib.Core.Bool.{Bool}
+use mathlib.Core.List.{List, [], ◌∷◌, ◌++◌}
+use Prim.Native.Nat.{ℕ, ◌+◌, ◌-◌}
+use native.Mathlib.Omega.{arith}
+use lib.ListN.{length, take, drop, replicate, take-append-drop, length-take, length-drop}
+use lib.Seq.{take_all, take_at, drop_at, drop-drop, take-append-le, drop-append-le}
+use Rattle.octets.specs.Bytes.{number_of, numbers_in, total}
+use Rattle.octets.specs.RowLaws.{length-numbers_in, numbers_in-append, numbers_in-ones}
+use Rattle.numbers.specs.Notation.{flag, refuse◌unless◌then◌}
+use Rattle.numbers.specs.Rules.{passes}
+use Rattle.settings.specs.declared.Settings.{Settings}
+use Rattle.settings.specs.Settings.{window_length_of}
+use Rattle.reading.specs.Layout.{count_width, places, values_widths, values_length}
+use Rattle.reading.specs.Restore.{values_rule}
+use Rattle.bodies.specs.declared.Verdict.{Verdict}
+use Rattle.bodies.specs.Bodies.{values_number, marks_at, WindowTold}
+use Rattle.bodies.proofs.read_window.Goals.{After-copy, After-get_words, After-number-count, After-values_good, Start}
+use Rattle.bodies.proofs.read_window.Goals as goal
+
+abbrev number_by : Bool → ℕ
+number_by b = refuse 11 unless b then 0
+
+-- bytes behind those of a row leave its numbers
+numbers_in-front : (ws b rest : List ℕ) → length b ≡ total ws → numbers_in ws (b ++ rest) ≡ numbers_in ws b
+numbers_in-front [] b rest e = refl
+numbers_in-front (w ∷ ws) b rest e =
+    ap₂ ◌∷◌
+    (ap number_of (take-append-le w b rest (omega arith)))
+    (ap (numbers_in ws) (drop-append-le w b rest (omega arith)) ∙ numbers_in-front ws (drop w b) rest (simp length-drop (omega arith)))
+
+module _ (body : List ℕ) (size : length body ≡ values_length) where
+  abbrev words : List ℕ
+  words = take (marks_at - count_width) (drop count_width body)
+
+  abbrev rest : List ℕ
+  rest = drop marks_at body
+
+  words_are : numbers_in (replicate places 4) words ≡ numbers_in (replicate places 4) (drop count_width body)
+  words_are =
+      sym (numbers_in-front (replicate places 4) words (drop (marks_at - count_width) (drop count_width body)) (simp (length-take, length-drop) (omega arith)))
+      ∙ ap (numbers_in (replicate places 4)) (take-append-drop (marks_at - count_width) (drop count_width body))
+
+  marks_are : take (values_length - marks_at) rest ≡ numbers_in (replicate places 1) (drop (marks_at - count_width) (drop count_width body))
+  marks_are =
+      let long : length rest ≡ places = simp length-drop (omega arith) in
+      let ones : numbers_in (replicate places 1) rest ≡ rest = rw long at (numbers_in-ones rest) in
+      take_all (values_length - marks_at) rest (omega arith) ∙ (sym ones ∙ ap (numbers_in (replicate places 1)) (sym (drop-drop (marks_at - count_width) count_width body)))
+
+  numbers-are : number_of (take count_width body) ∷ (numbers_in (replicate places 4) words ++ take (values_length - marks_at) rest) ≡ numbers_in values_widths body
+  numbers-are =
+      ap (number_of (take count_width body) ∷◌)
+      (ap₂ ◌++◌ words_are marks_are ∙ sym (numbers_in-append (replicate places 4) (replicate places 1) (drop count_width body)))
+
+  told : (s : Settings) (whole : Bool) {v n : ℕ} {w marks : List ℕ} {verdict : Verdict} →
+      v ≡ number_of (take count_width body) → w ≡ numbers_in (replicate places 4) words → marks ≡ take (values_length - marks_at) rest → n ≡ window_length_of s →
+      (r : Bool) → r ≡ passes (values_rule n (flag whole) (v ∷ (w ++ marks))) → values_number verdict ≡ number_by r →
+      WindowTold s whole body (record { verdict = verdict; count = v; window = w; marks = marks })
+  told s whole {v} {n} {w} {marks} v-is w-is marks-is n-is r e number =
+      let are : v ∷ (w ++ marks) ≡ numbers_in values_widths body = (λ i. v-is i ∷ (w-is i ++ marks-is i)) ∙ numbers-are in
+      let long : length w ≡ places = ap length w-is ∙ length-numbers_in (replicate places 4) words in
+      record {
+        number_is = number ∙ (ap number_by e ∙ (λ i. number_by (passes (values_rule (n-is i) (flag whole) (are i)))));
+        count_is = v-is;
+        window-is = sym (take_at w marks places long) ∙ (λ i. take places (drop 1 (are i)));
+        marks_are = sym (drop_at w marks places long) ∙ (λ i. drop (1 + places) (are i));
+      }
+
+--! in a helper: c.before.before.before.before.before is After-copy
+-- what `values_good` answered of them, as a verdict
+module _ (c : After-values_good) where
+  abbrev at_copy : After-copy
+  at_copy = c
+  abbrev at_words : After-get_words
+  at_words = at_copy.before.before.before.before
+  abbrev at-number : After-number-count
+  at-number = at_words.before.before.before
+  abbrev start : Start
+  start = at-number.before.before.before
+  answer : {verdict : Verdict} → values_number verdict ≡ number_by c.values_good.result →
+      WindowTold start.args.settings start.args.whole start.args.part.now
+      (record { verdict = verdict; count = at-number.number.result; window = at_words.get_words.last.1.0; marks = at_copy.copy.last.0 })
+  answer =
+      told start.args.part.now start.pre start.args.settings start.args.whole at-number.number.ensures at_words.get_words.ensures
+      at_copy.copy.ensures c.window_length.ensures.0 _ c.values_good.ensures
+
+pub returns-then-values_good : goal.returns-then-values_good
+returns-then-values_good c = answer (goal.at.returns-then-values_good c).After-values_good (ap number_by (sym c.if-values_good.true))
+
+pub returns-else-values_good : goal.returns-else-values_good
+returns-else-values_good c = answer (goal.at.returns-else-values_good c).After-values_good (ap number_by (sym c.if-values_good.false))

@@ -1,0 +1,6 @@
+-- The bench readings are computed in `specs/ConversionBenchProof.antt`.
+use Rattle.conversion.specs.ConversionBenchProof.{bench-holds}
+use Rattle.conversion.proofs.bench_readings.Goals as goal
+
+pub returns : goal.returns
+returns c = bench-holds

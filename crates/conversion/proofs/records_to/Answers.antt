@@ -1,0 +1,75 @@
+-- Each way out is a law of RowsLaws; the tests on both sides are the same but for the room, which the code asks of numbers of records.
+use mathlib.Core.Path.{refl, sym, ◌∙◌, ap}
+use borrow.Author.Rules.{rules}
+use borrow.Author.Tests.{not-true, not-false}
+use Rattle.conversion.specs.Conversion.{converted_to}
+use Rattle.conversion.specs.RowsLaws.{has_room, not-whole, not_good, not-fit, no_room, all-converted}
+use Rattle.conversion.proofs.records_to.Goals as goal
+
+record-length-requires c κs = search rules
+
+record-length-requires-2 c κs = search rules
+
+--! cannot read record-length-requires
+pub record_length-length-requires : goal.record_length-length-requires
+record-length-requires : tie.Need-record-length-requires
+
+pub returns-then-list-length-ne0 : goal.returns-then-list-length-ne0
+returns-then-list-length-ne0 c =
+    let a = c.args in
+    let sized = c.record_length-length in
+    not-whole a.from a.to sized.result _ a.list.now a.output.now sized.ensures.0 refl c.if-list-length-ne0.true
+
+pub returns-then-not-good : goal.returns-then-not-good
+returns-then-not-good c =
+    let a = c.args in
+    let sized = c.record_length-length in
+    let tested = c.test_records-tested in
+    not_good a.from a.to sized.result _ a.list.now a.output.now sized.ensures.0 refl c.if-list-length-ne0.false
+    (sym tested.ensures.0 ∙ not-true tested.result.good c.if-not-good.true)
+
+pub returns-then-not-fit : goal.returns-then-not-fit
+returns-then-not-fit c =
+    let a = c.args in
+    let sized = c.record_length-length in
+    let tested = c.test_records-tested in
+    not-fit a.from a.to sized.result _ a.list.now a.output.now sized.ensures.0 refl c.if-list-length-ne0.false
+    (sym tested.ensures.0 ∙ not-false tested.result.good c.if-not-good.false)
+    (sym tested.ensures.1 ∙ not-true tested.result.fit c.if-not-fit.true)
+
+--! cannot read record-length-requires-2
+pub record_length-requires : goal.record_length-requires
+record-length-requires-2 : tie.Need-record-length-requires-2
+
+pub returns-then-output-record_length : goal.returns-then-output-record_length
+returns-then-output-record_length c =
+    let a = c.args in
+    let sized = c.record_length-length in
+    let tested = c.test_records-tested in
+    let other-sized = c.record_length in
+    no_room a.from a.to sized.result other-sized.result a.list.now a.output.now sized.ensures.0 other-sized.ensures.0
+    c.if-list-length-ne0.false
+    (sym tested.ensures.0 ∙ not-false tested.result.good c.if-not-good.false)
+    (sym tested.ensures.1 ∙ not-false tested.result.fit c.if-not-fit.false)
+    c.if-output-record_length.true
+
+pub put_records-requires : goal.put_records-requires
+put_records-requires c =
+    let a = c.args in
+    let sized = c.record_length-length in
+    let other-sized = c.record_length in
+    let room = has_room a.from a.to sized.result other-sized.result a.list.now a.output.now sized.ensures.0 other-sized.ensures.0 in
+    (c.requires.0, c.requires.1, room c.if-output-record_length.false)
+
+pub returns : goal.returns
+returns c =
+    let a = c.args in
+    let sized = c.record_length-length in
+    let tested = c.test_records-tested in
+    let other-sized = c.record_length in
+    ap (converted_to 0) c.put_records.ensures
+    ∙ all-converted a.from a.to sized.result other-sized.result a.list.now a.output.now sized.ensures.0 other-sized.ensures.0
+    c.if-list-length-ne0.false
+    (sym tested.ensures.0 ∙ not-false tested.result.good c.if-not-good.false)
+    (sym tested.ensures.1 ∙ not-false tested.result.fit c.if-not-fit.false)
+    c.if-output-record_length.false

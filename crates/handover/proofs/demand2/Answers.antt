@@ -1,0 +1,6 @@
+-- Demand 2 is proved in `specs/Demand2Proof.antt`.
+use Rattle.handover.specs.Demand2Proof.{demand2-holds}
+use Rattle.handover.proofs.demand2.Goals as goal
+
+pub returns : goal.returns
+returns c = demand2-holds

@@ -1,0 +1,6 @@
+-- Demand 3 is proved in `specs/ClaimProof.antt`.
+use Rattle.handover.specs.ClaimProof.{demand3-holds}
+use Rattle.handover.proofs.demand3.Goals as goal
+
+pub returns : goal.returns
+returns c = demand3-holds

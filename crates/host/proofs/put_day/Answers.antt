@@ -1,0 +1,20 @@
+-- The row of the four numbers, the last two of which are a yes or no each.
+use mathlib.Core.Path.{refl, ◌∙◌}
+use mathlib.Core.List.{[], ◌∷◌}
+use Rattle.octets.specs.Bytes.{row}
+use Rattle.reading.specs.Engineer.{over}
+use Rattle.reading.specs.Layout.{day_reply_widths}
+use Rattle.host.proofs.put_day.Goals.{After-flag-2}
+use Rattle.host.proofs.put_day.Goals as goal
+
+pub put_front-requires : goal.put_front-requires
+put_front-requires c = (refl, refl, c.requires)
+
+pub returns : goal.returns
+returns c =
+    let first-flag = (goal.at.returns c).After-flag-2 in
+    let second-flag = first-flag.before in
+    let a = second-flag.before.before.before.before.args in
+    let d = a.day in
+    c.put_front.ensures
+    ∙ (λ i. over (row day_reply_widths (d.second.count ∷ d.first.count ∷ second-flag.flag.ensures i ∷ first-flag.flag2.ensures i ∷ [])) a.reply.now)

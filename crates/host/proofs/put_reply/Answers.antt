@@ -1,0 +1,9 @@
+-- The row of the three numbers.
+use mathlib.Core.Path.{refl}
+use Rattle.host.proofs.put_reply.Goals as goal
+
+pub put_front-requires : goal.put_front-requires
+put_front-requires c = (refl, refl, c.requires)
+
+pub returns : goal.returns
+returns c = c.put_front.ensures

@@ -1,0 +1,74 @@
+use mathlib.Core.Path.{◌≡◌, refl, sym, ◌∙◌, ap}
+use mathlib.Core.List.{List}
+use Prim.Native.Nat.{ℕ, ◌+◌, ◌-◌, ◌*◌, ◌%◌, ◌<◌}
+use native.Mathlib.Omega.{arith}
+use lib.IntN.{ℤ}
+use lib.ListN.{length, set, length-take}
+use Rattle.three_reading.specs.Three.{Three, each, Channel}
+use Rattle.three_reading.specs.Three.Channel.{on_a, on_b, on_c}
+use Rattle.lanes.specs.Lanes.{lane_in}
+use Rattle.lanes.specs.LanesLaws.{turn_of, column, length-lane_in, lane_in-at}
+use Rattle.lanes.proofs.Laying.{Small, kept, kept-is, Laid, laid_more, laid-all}
+use Rattle.lanes.proofs.split.Goals as goal
+
+abbrev AllSmall : Three ℤ → Type 0
+AllSmall t = Small t.a × Small t.b × Small t.c
+
+kept-all : (t : Three ℤ) → AllSmall t → each kept t ≡ t
+kept-all t h = λ j. record { a = kept-is t.a h.0 j; b = kept-is t.b h.1 j; c = kept-is t.c h.2 j }
+
+module _ (c : Channel) (n i : ℕ) (block : List ℤ) {before now : List ℤ} (l : Laid (lane_in c n block) i before now) (same : length before ≡ n)
+    (long : length block ≡ 3 * n) where
+  -- one column more, and none left
+  more : {r : ℤ} → i < n → AllSmall (column n block i) → Small r → r ≡ turn_of c (i % 3) (each kept (column n block i))
+      → Laid (lane_in c n block) (i + 1) before (set now i (kept r))
+  more {r} h small s e =
+      let lane = length-lane_in n block long c in
+      let is = e ∙ (ap (turn_of c (i % 3)) (kept-all (column n block i) small) ∙ sym (lane_in-at n block long c i h)) in
+      laid_more (lane_in c n block) i l (omega arith) (omega arith) s is
+
+  all : i ≡ n → now ≡ lane_in c n block
+  all h =
+      let lane = length-lane_in n block long c in
+      laid-all (lane_in c n block) i l (omega arith) (omega arith)
+
+pub slice_bounds-first-end : goal.slice_bounds-first-end
+slice_bounds-first-end c = simp length-take (omega arith)
+
+pub loop-i-init : goal.loop-i-init
+loop-i-init c = (omega arith, record { same = refl; so_far = refl }, record { same = refl; so_far = refl }, record { same = refl; so_far = refl })
+
+pub bounds-first-i : goal.bounds-first-i
+bounds-first-i c = simp length-take (omega arith)
+
+--! path c.before.before.before.before.before.before.before.before.before.before.before at After-chosen3
+pub loop-i-preserved : goal.loop-i-preserved
+loop-i-preserved c =
+    let l = c.loop-i in
+    let start = c in
+    let n = length start.args.a.now in
+    let inside : l.i < n = omega arith in
+    let block = start.args.block.now in
+    let small : AllSmall (column n block l.i) =
+    (c.x-1.given, c.y-1.given, c.z-1.given) in
+    let first = c.chosen in
+    let second = c.chosen-in-loop-i in
+    let third = c.chosen-in-loop-i-2 in (
+      omega arith,
+      more on_a n l.i block l.invariant.1 refl start.requires.0 inside small first.type_inv first.ensures,
+      more on_b n l.i block l.invariant.2 start.requires.2 start.requires.0 inside small second.type_inv second.ensures,
+      more on_c n l.i block l.invariant.3 start.requires.3 start.requires.0 inside small third.type_inv third.ensures,
+    )
+
+--! path c.before.before.before.before.before at After-loop
+pub returns : goal.returns
+returns c =
+    let l = c.loop-i in
+    let start = c in
+    let n = length start.args.a.now in
+    let ended : l.i ≡ n = omega arith in
+    let block = start.args.block.now in (
+      all on_a n l.i block l.invariant.1 refl start.requires.0 ended,
+      all on_b n l.i block l.invariant.2 start.requires.2 start.requires.0 ended,
+      all on_c n l.i block l.invariant.3 start.requires.3 start.requires.0 ended,
+    )

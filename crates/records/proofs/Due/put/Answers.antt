@@ -1,0 +1,80 @@
+-- `Due::put` meets its contract. Each call leaves room for those after it (`length-records_of`), and its record stands behind those before it (`placed-records`).
+use mathlib.Core.Path.{◌≡◌, refl, ap, ◌∙◌}
+use mathlib.Core.List.{List, [], ◌∷◌, ◌++◌, append_assoc}
+use Prim.Native.Nat.{ℕ, ◌+◌, ◌*◌}
+use native.Mathlib.Omega.{arith}
+use lib.ListN.{length, length-append}
+use Rattle.reading.specs.declared.Record.{Record}
+use Rattle.reading.specs.Records.{record_bytes}
+use Rattle.reading.specs.Engineer.{over}
+use Rattle.reading.specs.Layout.{record_length}
+use Rattle.threshold.specs.Standing.{list_of}
+use Rattle.records.specs.Due.{records_of, placed}
+use Rattle.records.specs.DueLaws.{length-records_of, placed-records}
+use Rattle.records.proofs.Due.put.Goals as goal
+
+-- the records of four lists, placed one behind the other
+four-placed : (q₁ q₂ q₃ : ℕ) (es₁ es₂ es₃ es₄ : List Record) (b b₁ b₂ b₃ b₄ : List ℕ)
+    → q₁ ≡ 0 + record_length * length es₁ → q₂ ≡ q₁ + record_length * length es₂ → q₃ ≡ q₂ + record_length * length es₃
+    → b₁ ≡ over (record_bytes es₁) b → b₂ ≡ placed q₁ (record_bytes es₂) b₁ → b₃ ≡ placed q₂ (record_bytes es₃) b₂ → b₄ ≡ placed q₃ (record_bytes es₄) b₃
+    → b₄ ≡ over (record_bytes (es₁ ++ (es₂ ++ (es₃ ++ es₄)))) b
+four-placed q₁ q₂ q₃ es₁ es₂ es₃ es₄ b b₁ b₂ b₃ b₄ e₁ e₂ e₃ h₁ h₂ h₃ h₄ =
+    let is : ((es₁ ++ es₂) ++ es₃) ++ es₄ ≡ es₁ ++ (es₂ ++ (es₃ ++ es₄)) = simp append_assoc in
+    let l₂ = length-append (es₁ ++ es₂) es₃ in
+    let l₁ = length-append es₁ es₂ in
+    let g₂ = h₂ ∙ placed-records q₁ es₁ es₂ b b₁ (omega arith) h₁ in
+    let g₃ = h₃ ∙ placed-records q₂ (es₁ ++ es₂) es₃ b b₂ (omega arith) g₂ in
+    let g₄ = h₄ ∙ placed-records q₃ ((es₁ ++ es₂) ++ es₃) es₄ b b₃ (omega arith) g₃ in
+    g₄ ∙ ap (λ (es : List Record). over (record_bytes es) b) is
+
+-- no record
+none_over : (es : List Record) (b : List ℕ) → length es ≡ 0 → b ≡ over (record_bytes es) b
+none_over [] b h = refl
+none_over (e ∷ es) b h = absurd (omega arith)
+
+pub returns-then-count-eq0 : goal.returns-then-count-eq0
+returns-then-count-eq0 c =
+    let a = c.args in
+    none_over (records_of a.self) a.buffer.now (omega (arith, c.count.ensures, c.if-count-eq0.true))
+
+pub put_ended-after_dip-requires : goal.put_ended-after_dip-requires
+put_ended-after_dip-requires c =
+    omega (arith, length-records_of c.args.self, c.requires)
+
+pub put_ended-after_swell-requires : goal.put_ended-after_swell-requires
+put_ended-after_swell-requires c =
+    omega (arith, length-records_of c.args.self, c.requires, c.put_ended-after_dip.ensures.0, c.put_ended-after_dip.auto)
+
+pub put_ended-after_interruption-requires : goal.put_ended-after_interruption-requires
+put_ended-after_interruption-requires c =
+    omega (
+      arith,
+      length-records_of c.args.self,
+      c.requires,
+      c.put_ended-after_dip.ensures.0,
+      c.put_ended-after_dip.auto,
+      c.put_ended-after_swell.ensures.0,
+      c.put_ended-after_swell.auto,
+    )
+
+pub put_ended-requires : goal.put_ended-requires
+put_ended-requires c =
+    omega (
+      arith,
+      length-records_of c.args.self,
+      c.requires,
+      c.put_ended-after_dip.ensures.0,
+      c.put_ended-after_dip.auto,
+      c.put_ended-after_swell.ensures.0,
+      c.put_ended-after_swell.auto,
+      c.put_ended-after_interruption.ensures.0,
+      c.put_ended-after_interruption.auto,
+    )
+
+pub returns : goal.returns
+returns c =
+    let a = c.args in
+    let d = a.self in
+    four-placed _ _ _ (list_of d.dip) (list_of d.swell) (list_of d.interruption) (list_of d.change) a.buffer.now _ _ _ _
+    c.put_ended-after_dip.ensures.0 c.put_ended-after_swell.ensures.0 c.put_ended-after_interruption.ensures.0
+    c.put_ended-after_dip.ensures.1 c.put_ended-after_swell.ensures.1 c.put_ended-after_interruption.ensures.1 c.put_ended.ensures.1

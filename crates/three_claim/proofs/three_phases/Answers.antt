@@ -1,0 +1,6 @@
+-- The claim is proved in `specs/ThreeClaimProof.antt`.
+use Rattle.three_claim.specs.ThreeClaimProof.{three-phases-holds}
+use Rattle.three_claim.proofs.three_phases.Goals as goal
+
+pub returns : goal.returns
+returns c = three-phases-holds

@@ -1,0 +1,15 @@
+-- The invariant `Walking`: what is fed so far, and the cut of what is left. It starts, turns and ends by the laws of Walking.
+use Prim.Native.Nat.{◌-◌}
+use lib.ListN.{length}
+use Rattle.three_reading.specs.Three.{triples_of}
+use Rattle.joint.specs.Joint.{three_of}
+use Rattle.three_feed.proofs.Walking.{Walking}
+use Rattle.three_feed.proofs.walk.Given as goal
+
+abbrev pub invariant-loop-share : goal.invariant-loop-share
+invariant-loop-share l =
+    Walking l.settings (three_of l.initial.a l.initial.b l.initial.c) l.initial.marks l.block l.initial.records l.initial.g l.initial.kept (three_of l.a l.b l.c) l.marks l.records (three_of l.lane_a l.lane_b l.lane_c) l.g l.kept l.sums l.at l.written l.share
+
+abbrev pub decreases-loop-share : goal.decreases-loop-share
+decreases-loop-share l =
+    length (triples_of l.block) - l.at

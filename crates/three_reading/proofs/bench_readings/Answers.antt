@@ -1,0 +1,6 @@
+-- The bench readings are computed in `specs/ThreeBenchProof.antt`.
+use Rattle.three_reading.specs.ThreeBenchProof.{bench-holds}
+use Rattle.three_reading.proofs.bench_readings.Goals as goal
+
+pub returns : goal.returns
+returns c = bench-holds
