@@ -11,6 +11,7 @@ pub put_front-requires : goal.put_front-requires
 put_front-requires c = (refl, refl, c.requires)
 
 pub returns : goal.returns
+unfolding day_replied
 returns c =
     let first-flag = (goal.at.returns c).After-flag-2 in
     let second-flag = first-flag.before in

@@ -6,4 +6,5 @@ pub put_front-requires : goal.put_front-requires
 put_front-requires c = (refl, refl, c.requires)
 
 pub returns : goal.returns
+unfolding replied
 returns c = c.put_front.ensures

@@ -3,7 +3,9 @@ use Rattle.std.proofs.Common.{le-ltb, lt-ltb}
 use Rattle.rms.proofs.Gatherer.cut.Goals as goal
 
 pub returns-then-samples-missing : goal.returns-then-samples-missing
+unfolding cut
 returns-then-samples-missing c = simp (lt-ltb _ _ c.if-samples-missing.true)
 
 pub returns : goal.returns
+unfolding cut
 returns c = simp (le-ltb _ _ c.if-samples-missing.false)

@@ -28,6 +28,7 @@ module _ (c : After-refusal-n) where
       λ i. answered (refusal_is i) (settings-are i)
 
 pub returns-then-bytes-ne-LENGTH : goal.returns-then-bytes-ne-LENGTH
+unfolding settings_read start_refusal
 returns-then-bytes-ne-LENGTH c =
     let bytes = c.args.bytes.now in
     sym (ap (λ (n : ℕ). answered n (settings_of bytes)) (refuse-fails 1 _ (ne_eqb _ settings_length c.if-bytes-ne-LENGTH.true)))

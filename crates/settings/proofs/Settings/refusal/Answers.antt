@@ -76,6 +76,7 @@ behind-levels c =
     ∙ ap (λ (t : Bool). refuse 6 unless t then 0) (and-passes (passes (order_rule (self-5 c))) (passed c.levels_good.ensures c.if-not-levels_good.false))
 
 pub returns-then-not-samples_good : goal.returns-then-not-samples_good
+unfolding settings_refusal
 returns-then-not-samples_good c = sym (refuse-fails 2 _ (failed c.samples_good.ensures c.if-not-samples_good.true))
 
 pub returns-then-not-frequency_good : goal.returns-then-not-frequency_good

@@ -5,6 +5,7 @@ use Rattle.state.specs.StepValid.{fresh-valid}
 use Rattle.state.proofs.State.fresh.Goals as goal
 
 pub returns : goal.returns
+unfolding fresh
 returns c =
     let s = c.args.settings in
     let is : state_with s c.new.result c.new-2.result (fresh s).window (fresh s).marks ≡ fresh s =

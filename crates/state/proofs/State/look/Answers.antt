@@ -8,6 +8,7 @@ use Rattle.state.proofs.State.look.Goals.{After-phase_number}
 use Rattle.state.proofs.State.look.Goals as goal
 
 pub returns : goal.returns
+unfolding readings_of
 returns c =
     let at-phase-number = (goal.at.returns c).After-phase_number in
     let at-full-sum = at-phase-number.before in

@@ -6,6 +6,7 @@ use Rattle.three_state.proofs.ThreeState.fresh.Goals.{After-new}
 use Rattle.three_state.proofs.ThreeState.fresh.Goals as goal
 
 pub returns : goal.returns
+unfolding three_fresh
 returns c =
     let s = c.args.settings in
     let g = c.new-none.result in

@@ -18,6 +18,7 @@ pub look_at-requires-3 : goal.look_at-requires-3
 look_at-requires-3 c = search (rules, (c.requires.window_valid on_c).size)
 
 pub returns : goal.returns
+unfolding three_readings_of
 returns c =
     let at-phase-number = (goal.at.returns c).After-phase_number in
     let at_c = at-phase-number.before in
