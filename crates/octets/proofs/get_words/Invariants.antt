@@ -2,7 +2,7 @@
 -- `one_more` reads one.
 use mathlib.Core.Path.{◌≡◌}
 use mathlib.Core.List.{◌++◌}
-use Prim.Native.Nat.{◌≤◌, ◌-◌, ◌+◌, ◌*◌}
+use Prim.Native.Nat.{◌≤◌, ◌-◌, ◌*◌}
 use lib.ListN.{length, take, drop, replicate}
 use Rattle.octets.specs.Bytes.{numbers_in}
 use Rattle.octets.proofs.get_words.Given as goal

@@ -1,6 +1,6 @@
 -- `octets::number` meets its contract. The loop's invariant: x is the number of the bytes from i on; `drop-one` puts one byte more below them.
 use mathlib.Core.Path.{◌≡◌}
-use Prim.Native.Nat.{◌≤◌, ◌-◌}
+use Prim.Native.Nat.{◌≤◌}
 use lib.ListN.{length, drop}
 use Rattle.octets.specs.Bytes.{number_of}
 use Rattle.octets.proofs.number.Given as goal

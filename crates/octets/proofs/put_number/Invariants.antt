@@ -2,7 +2,7 @@
 -- `one_more` writes one.
 use mathlib.Core.Path.{◌≡◌}
 use mathlib.Core.List.{◌++◌}
-use Prim.Native.Nat.{◌≤◌, ◌-◌, ◌+◌}
+use Prim.Native.Nat.{◌≤◌, ◌-◌}
 use lib.ListN.{length, take}
 use Rattle.octets.specs.Bytes.{bytes_of}
 use Rattle.octets.proofs.put_number.Given as goal

@@ -2,7 +2,7 @@
 -- `part-more` writes the 4 bytes of one.
 use mathlib.Core.Path.{◌≡◌}
 use mathlib.Core.List.{◌++◌}
-use Prim.Native.Nat.{◌≤◌, ◌-◌, ◌+◌, ◌*◌}
+use Prim.Native.Nat.{◌≤◌, ◌-◌, ◌*◌}
 use lib.ListN.{length, take, drop}
 use Rattle.octets.specs.Bytes.{row, fours}
 use Rattle.octets.proofs.put_words.Given as goal

@@ -19,6 +19,7 @@ answer-refused (suc n) s h = refl
 module _ (c : After-refusal-n) where
   abbrev given : List ℕ
   given = c.args.bytes.now
+
   answer-is : answered c.refusal-n.result c.unchecked-settings.result ≡ settings_read given
   unfolding settings_read start_refusal
   answer-is =

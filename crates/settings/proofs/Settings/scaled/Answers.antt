@@ -1,7 +1,6 @@
 -- The bounds of valid settings let each level and limit be scaled; the five parts are what the calls ensure.
 use mathlib.Core.Path.{◌∙◌}
 use Prim.Native.Nat.{◌-◌}
-use Rattle.settings.proofs.Settings.scaled.Goals.{After-threshold, After-threshold-2}
 use Rattle.settings.proofs.Settings.scaled.Goals as goal
 
 pub returns : goal.returns
@@ -10,8 +9,8 @@ returns c =
     let reduced = c.scaled_limit.ensures in
     let interruption = c.threshold-3.ensures in
     (λ i. record {
-      (goal.at.returns c).After-threshold = record { begins = c.threshold.ensures.0 i; ends = c.threshold.ensures.1 i };
-      (goal.at.returns c).After-threshold-2 = record { begins = c.threshold-2.ensures.0 i; ends = c.threshold-2.ensures.1 i };
+      dip = record { begins = c.threshold.ensures.0 i; ends = c.threshold.ensures.1 i };
+      swell = record { begins = c.threshold-2.ensures.0 i; ends = c.threshold-2.ensures.1 i };
       interruption = record { begins = interruption.0 i; ends = interruption.1 i };
       limit = limit i;
       reduction = (c.minus.ensures ∙ (λ k. limit k - reduced k)) i;
