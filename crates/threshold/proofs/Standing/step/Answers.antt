@@ -1,5 +1,6 @@
 -- Each way out is the definition's, by the tests that led there.
 use borrow.Author.Tests.{eq-eqb, ne_eqb}
+use Rattle.threshold.specs.Standing.{stepped}
 use Rattle.threshold.proofs.Standing.step.Goals as goal
 
 pub returns-then-self-eq0 : goal.returns-then-self-eq0
