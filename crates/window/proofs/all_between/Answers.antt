@@ -25,7 +25,7 @@ loop-i-preserved c =
     let x : ℕ = get_or a.part.now loop.i 0 in
     let d = c.wrapping_sub_u32-distance in
     let test : not (a.highest - a.lowest <ᵇ d.result) ≡ between a.lowest a.highest x =
-    one-test a.lowest a.highest x d.result (omega arith) (omega arith) (omega arith) d.ensures in (
+    one-test a.lowest a.highest x d.result (omega arith) (omega arith) (omega arith) d.ensures.value in (
       omega arith,
       rw (all_more a.part.now loop.i (omega arith) (between a.lowest a.highest))
           (not-or loop.outside (a.highest - a.lowest <ᵇ d.result) ∙ (λ j. loop.invariant.1 j && test j)),
