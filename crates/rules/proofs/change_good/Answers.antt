@@ -6,9 +6,9 @@ use native.Mathlib.Omega.{arith}
 use lib.ListN.{get_or}
 use Rattle.numbers.specs.Notation.{◌≤ᵇ◌, ◌≡ᵇ◌}
 use Rattle.numbers.specs.Rules.Rule.{◌<ʳ◌}
-use Rattle.numbers.specs.RulesLaws.{broken, answered-no, answered-yes}
+use Rattle.numbers.specs.RulesLaws.{broken}
 use Rattle.reading.specs.Restore.{mark_rule, early_rule, stand_rule, change_rule}
-use Rattle.rules.proofs.Answers.{left_over}
+use Rattle.rules.proofs.Answers.{left_over, rejected, accepted}
 use Rattle.rules.proofs.change_good.Goals as goal
 
 pub returns-then-start-window_length : goal.returns-then-start-window_length
@@ -38,7 +38,7 @@ returns-then-not-zero_where c =
     let answer = c.zero_where.ensures ∙ ap (λ (early : Bool). not early || get_or ns 2 0 ≡ᵇ 0) c.is_early-early.ensures in
     broken
     (change_rule a.window_length a.count a.numbers.now a.mark)
-    (λ h. answered-no (early_rule a.window_length a.count (get_or ns 0 0) (get_or ns 2 0)) answer c.if-not-zero_where.true h.1.1.1.1.0)
+    (λ h. rejected (early_rule a.window_length a.count (get_or ns 0 0) (get_or ns 2 0)) answer c.if-not-zero_where.true h.1.1.1.1.0)
 
 pub returns-then-not-stand_good : goal.returns-then-not-stand_good
 returns-then-not-stand_good c =
@@ -46,7 +46,7 @@ returns-then-not-stand_good c =
     let ns = a.numbers.now in
     broken
     (change_rule a.window_length a.count a.numbers.now a.mark)
-    (λ h. answered-no (stand_rule a.count (get_or ns 0 0) (get_or ns 3 0)) c.stand_good.ensures c.if-not-stand_good.true h.1.1.1.1.1.0)
+    (λ h. rejected (stand_rule a.count (get_or ns 0 0) (get_or ns 3 0)) c.stand_good.ensures c.if-not-stand_good.true h.1.1.1.1.1.0)
 
 pub returns : goal.returns
 returns c =
@@ -55,8 +55,8 @@ returns c =
     let ns = a.numbers.now in
     let n = a.window_length in
     let answer = c.zero_where.ensures ∙ ap (λ (early : Bool). not early || get_or ns 2 0 ≡ᵇ 0) is.ensures in
-    let none = answered-yes (early_rule n a.count (get_or ns 0 0) (get_or ns 2 0)) answer c.if-not-zero_where.false in
-    let stand = answered-yes (stand_rule a.count (get_or ns 0 0) (get_or ns 3 0)) c.stand_good.ensures c.if-not-stand_good.false in
+    let none = accepted (early_rule n a.count (get_or ns 0 0) (get_or ns 2 0)) answer c.if-not-zero_where.false in
+    let stand = accepted (stand_rule a.count (get_or ns 0 0) (get_or ns 3 0)) c.stand_good.ensures c.if-not-stand_good.false in
     left_over
     (change_rule a.window_length a.count a.numbers.now a.mark)
     (mark_rule (a.count <ʳ get_or ns 0 0 + n) a.mark)

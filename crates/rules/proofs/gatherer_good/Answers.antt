@@ -2,9 +2,9 @@
 use native.Mathlib.Omega.{arith}
 use lib.ListN.{get_or}
 use Rattle.numbers.specs.Rules.Rule.{◌≡ʳ◌, ◌implies◌}
-use Rattle.numbers.specs.RulesLaws.{broken, answered-no, answered-yes}
+use Rattle.numbers.specs.RulesLaws.{broken}
 use Rattle.reading.specs.Restore.{mark_rule, gatherer_rule}
-use Rattle.rules.proofs.Answers.{left_over}
+use Rattle.rules.proofs.Answers.{left_over, rejected, accepted}
 use Rattle.rules.proofs.gatherer_good.Goals as goal
 
 pub returns-then-most-count : goal.returns-then-most-count
@@ -31,7 +31,7 @@ returns-then-not-zero_where c =
     let ns = a.numbers.now in
     broken
     (gatherer_rule a.samples a.numbers.now)
-    (λ h. answered-no (get_or ns 3 0 ≡ʳ 0 implies get_or ns 2 0 ≡ʳ 0) c.zero_where.ensures c.if-not-zero_where.true h.1.1.1.1.0)
+    (λ h. rejected (get_or ns 3 0 ≡ʳ 0 implies get_or ns 2 0 ≡ʳ 0) c.zero_where.ensures c.if-not-zero_where.true h.1.1.1.1.0)
 
 pub returns-then-not-mark_good : goal.returns-then-not-mark_good
 returns-then-not-mark_good c =
@@ -39,14 +39,14 @@ returns-then-not-mark_good c =
     let ns = a.numbers.now in
     broken
     (gatherer_rule a.samples a.numbers.now)
-    (λ h. answered-no (mark_rule (get_or ns 0 0 ≡ʳ 0) (get_or ns 4 0)) c.mark_good.ensures c.if-not-mark_good.true h.1.1.1.1.1.0)
+    (λ h. rejected (mark_rule (get_or ns 0 0 ≡ʳ 0) (get_or ns 4 0)) c.mark_good.ensures c.if-not-mark_good.true h.1.1.1.1.1.0)
 
 pub returns : goal.returns
 returns c =
     let a = c.args in
     let ns = a.numbers.now in
-    let none = answered-yes (get_or ns 3 0 ≡ʳ 0 implies get_or ns 2 0 ≡ʳ 0) c.zero_where.ensures c.if-not-zero_where.false in
-    let mark = answered-yes (mark_rule (get_or ns 0 0 ≡ʳ 0) (get_or ns 4 0)) c.mark_good.ensures c.if-not-mark_good.false in
+    let none = accepted (get_or ns 3 0 ≡ʳ 0 implies get_or ns 2 0 ≡ʳ 0) c.zero_where.ensures c.if-not-zero_where.false in
+    let mark = accepted (mark_rule (get_or ns 0 0 ≡ʳ 0) (get_or ns 4 0)) c.mark_good.ensures c.if-not-mark_good.false in
     left_over
     (gatherer_rule a.samples a.numbers.now)
     (mark_rule (get_or ns 3 0 ≡ʳ 0) (get_or ns 5 0))

@@ -5,7 +5,6 @@ use Rattle.numbers.specs.Rules.Rule.{◌≡ʳ◌, ◌and◌, all_zero}
 use Rattle.numbers.specs.RulesLaws.{broken}
 use Rattle.reading.specs.Restore.{change_rule, phase_rule}
 use Rattle.rules.proofs.Answers.{left_over}
-use Rattle.rules.proofs.phase_good.Goals.{Else-phase-eq3}
 use Rattle.rules.proofs.phase_good.Goals as goal
 
 pub returns-then-phase-gt3 : goal.returns-then-phase-gt3
@@ -43,12 +42,10 @@ returns-then-phase-eq3 c =
 
 pub returns : goal.returns
 returns c =
-    let not-3 = (goal.at.returns c).Else-phase-eq3 in
-    let not-0 = not-3.before.before in
-    let a = not-0.before.before.before.before.args in
+    let a = c.args in
     left_over
     (phase_rule a.window_length a.count a.numbers.now a.mark)
     (all_zero (take 4 (drop 1 a.numbers.now)) and a.mark ≡ʳ 0)
     c.change_zero-2.ensures
-    (λ none. (omega arith, ((λ z. absurd (not-0.if2.false z), λ z. absurd (omega arith)), (λ z. absurd (not-3.if5.false z), λ _. none))))
-    (λ h. h.1.1.1 (omega (arith, not-3.if5.false)))
+    (λ none. (omega arith, ((λ z. absurd (c.if-phase-eq0.false z), λ z. absurd (omega arith)), (λ z. absurd (c.if-phase-eq3.false z), λ _. none))))
+    (λ h. h.1.1.1 (omega (arith, c.if-phase-eq3.false)))

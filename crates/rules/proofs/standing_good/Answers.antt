@@ -1,9 +1,9 @@
 -- Each test that fails breaks the rule; what the tests leave decides it.
 use native.Mathlib.Omega.{arith}
 use Rattle.numbers.specs.Rules.Rule.{◌≡ʳ◌, ◌implies◌}
-use Rattle.numbers.specs.RulesLaws.{broken, answered-no, answered-yes}
+use Rattle.numbers.specs.RulesLaws.{broken}
 use Rattle.reading.specs.Restore.{mark_rule, standing_rule}
-use Rattle.rules.proofs.Answers.{left_over}
+use Rattle.rules.proofs.Answers.{left_over, rejected, accepted}
 use Rattle.rules.proofs.standing_good.Goals as goal
 
 pub returns-then-count-start : goal.returns-then-count-start
@@ -17,12 +17,12 @@ returns-then-not-zero_where c =
     let a = c.args in
     broken
     (standing_rule a.count a.start a.magnitude a.mark)
-    (λ h. answered-no (a.start ≡ʳ 0 implies a.magnitude ≡ʳ 0) c.zero_where.ensures c.if-not-zero_where.true h.1.1.0)
+    (λ h. rejected (a.start ≡ʳ 0 implies a.magnitude ≡ʳ 0) c.zero_where.ensures c.if-not-zero_where.true h.1.1.0)
 
 pub returns : goal.returns
 returns c =
     let a = c.args in
-    let none = answered-yes (a.start ≡ʳ 0 implies a.magnitude ≡ʳ 0) c.zero_where.ensures c.if-not-zero_where.false in
+    let none = accepted (a.start ≡ʳ 0 implies a.magnitude ≡ʳ 0) c.zero_where.ensures c.if-not-zero_where.false in
     left_over
     (standing_rule a.count a.start a.magnitude a.mark)
     (mark_rule (a.start ≡ʳ 0) a.mark)

@@ -9,10 +9,10 @@ use lib.Seq.{take_at, drop_at}
 use Rattle.numbers.specs.Notation.{flag}
 use Rattle.numbers.specs.Rules.{Rule, passes}
 use Rattle.numbers.specs.Rules.Rule.{◌≤ʳ◌, ◌and◌}
-use Rattle.numbers.specs.RulesLaws.{broken, answered-no, answered-yes}
+use Rattle.numbers.specs.RulesLaws.{broken}
 use Rattle.reading.specs.Feed.{last_value}
 use Rattle.reading.specs.Restore.{value_most, whole_rule, places_rule, values_rule}
-use Rattle.rules.proofs.Answers.{left_over}
+use Rattle.rules.proofs.Answers.{left_over, rejected, accepted}
 use Rattle.rules.proofs.values_good.Goals as goal
 
 -- the rule over V, the window and the marks
@@ -42,7 +42,7 @@ returns-then-not-whole_good c =
     let marks = a.marks.now in
     let whole = flag a.whole in
     body n whole v window marks c.requires.1
-    (broken (parts n whole v window marks) (λ h. answered-no (whole_rule whole v) c.whole_good.ensures c.if-not-whole_good.true h.1.0))
+    (broken (parts n whole v window marks) (λ h. rejected (whole_rule whole v) c.whole_good.ensures c.if-not-whole_good.true h.1.0))
 
 pub returns-then-not-places_good : goal.returns-then-not-places_good
 returns-then-not-places_good c =
@@ -53,7 +53,7 @@ returns-then-not-places_good c =
     let marks = a.marks.now in
     let whole = flag a.whole in
     body n whole v window marks c.requires.1
-    (broken (parts n whole v window marks) (λ h. answered-no (places_rule value_most n v window) c.places_good.ensures c.if-not-places_good.true h.1.1.0))
+    (broken (parts n whole v window marks) (λ h. rejected (places_rule value_most n v window) c.places_good.ensures c.if-not-places_good.true h.1.1.0))
 
 pub returns : goal.returns
 returns c =
@@ -63,7 +63,7 @@ returns c =
     let window = a.window.now in
     let marks = a.marks.now in
     let whole = flag a.whole in
-    let none = answered-yes (whole_rule whole v) c.whole_good.ensures c.if-not-whole_good.false in
-    let values = answered-yes (places_rule value_most n v window) c.places_good.ensures c.if-not-places_good.false in
+    let none = accepted (whole_rule whole v) c.whole_good.ensures c.if-not-whole_good.false in
+    let values = accepted (places_rule value_most n v window) c.places_good.ensures c.if-not-places_good.false in
     body n whole v window marks c.requires.1
     (left_over (parts n whole v window marks) (places_rule 1 n v marks) c.marks_good.ensures (λ rest. (omega (arith, c.if-count-gt-LAST_VALUE.false), (none, (values, rest)))) (λ h. h.1.1.1))
