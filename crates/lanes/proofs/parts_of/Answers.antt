@@ -14,13 +14,6 @@ use Rattle.three_reading.specs.Three.Channel.{on_a, on_b, on_c}
 use Rattle.three_laws.specs.ChannelLaws.{length-channel}
 use Rattle.lanes.specs.Lanes.{lane_in, row_length, lane, laid, SquaresFit, PartsAre}
 use Rattle.lanes.specs.LanesLaws.{length-lane_in, lane-part, lane-long}
-use Rattle.lanes.proofs.parts_of.Reads as reads
-use Rattle.lanes.proofs.parts_of.Lts as lts
-use Rattle.rms.proofs.sum_squares.Reads as sum-squares-reads
-use Rattle.lanes.proofs.row_length.Reads as row-length-reads
-use Rattle.lanes.proofs.split.Reads as split-reads
-use Rattle.lanes.proofs.split_in_order.Reads as split-in-order-reads
-use Rattle.lanes.proofs.parts_of.Goals.{After-split_in_order, After-split_in_order-arg-2-1, After-split_in_order-arg-3-1, After-split_in_order-arg-4-1}
 use Rattle.lanes.proofs.parts_of.Goals as goal
 
 -- a lane of which the first m places are laid, and then the places up to n
@@ -82,127 +75,24 @@ module _ (xs : List (Three ℤ)) where
       each on_b = fits on_b q v
       each on_c = fits on_c r w
 
--- where all is laid
-abbrev Place : Type 0
-Place =
-    lts.After-split-in-order (
-      row-length-reads.Asked,
-      row-length-reads.Learnt,
-      split-reads.Asked,
-      split-reads.Learnt,
-      split-in-order-reads.Asked,
-      split-in-order-reads.Learnt,
-      sum-squares-reads.Asked,
-      sum-squares-reads.Learnt,
-    ) reads.Pre reads.Post
-
-abbrev row_length_in : Place → ℕ
-row_length_in c = c.before.before.before.before.before.before.before.before.before.before.before.before.before.row_length.result
-
-abbrev block_in : Place → List ℤ
-block_in c = c.before.before.before.before.before.before.before.before.before.before.before.before.before.before.args.block.now
-
-abbrev out_in : Channel → Place → List ℤ
-out_in on_a c = c.before.before.before.before.before.before.before.before.before.before.before.before.before.before.args.a.now
-out_in on_b c = c.before.before.before.before.before.before.before.before.before.before.before.before.before.before.args.b.now
-out_in on_c c = c.before.before.before.before.before.before.before.before.before.before.before.before.before.before.args.c.now
-
-abbrev rows_in : Channel → Place → List ℤ
-rows_in on_a c = c.before.before.before.before.before.before.before.before.split.new.1.0
-rows_in on_b c = c.before.before.before.before.before.before.before.before.split.new.1.1.0
-rows_in on_c c = c.before.before.before.before.before.before.before.before.split.new.1.1.1.0
-
-abbrev rest_in : Channel → Place → List ℤ
-rest_in on_a c = c.split_in_order.new.1.0
-rest_in on_b c = c.split_in_order.new.1.1.0
-rest_in on_c c = c.split_in_order.new.1.1.1.0
-
--- what the place has of each channel
-out-long : (d : Channel) (c : Place) → length (out_in d c) ≡ 256
-out-long on_a c = c.before.before.before.before.before.before.before.before.before.before.before.before.before.before.requires.2
-out-long on_b c = c.before.before.before.before.before.before.before.before.before.before.before.before.before.before.requires.3
-out-long on_c c = c.before.before.before.before.before.before.before.before.before.before.before.before.before.before.requires.4
-
-rows_are : (d : Channel) (c : Place) → let m = row_length_in c in rows_in d c ≡ lane_in d (length (take m (out_in on_a c))) (take (3 * m) (block_in c))
-rows_are on_a c = c.before.before.before.before.before.before.before.before.split.ensures.0
-rows_are on_b c = c.before.before.before.before.before.before.before.before.split.ensures.1
-rows_are on_c c = c.before.before.before.before.before.before.before.before.split.ensures.2
-
-rest-are : (d : Channel) (c : Place) → let m = row_length_in c in
-    rest_in d c ≡ channel d (triples_of (take (length (block_in c) - 3 * m) (drop (3 * m) (block_in c))))
-rest-are on_a c = c.split_in_order.ensures.0
-rest-are on_b c = c.split_in_order.ensures.1
-rest-are on_c c = c.split_in_order.ensures.2
-
-lane_in_lem : (d : Channel) (c : Place) → Lane d (row_length_in c) (length (block_in c) / 3) (block_in c) (out_in d c) (rows_in d c) (rest_in d c)
-lane_in_lem d c =
-    let pre = c.before.before.before.before.before.before.before.before.before.before.before.before.before.before.requires in
-    let row = c.before.before.before.before.before.before.before.before.before.before.before.before.before.row_length.ensures in
-    lane-is d (row_length_in c) (block_in c) (out_in on_a c) (out_in d c) (rows_in d c) (rest_in d c) pre.0 pre.1 pre.2 (out-long d c) row
-    (rows_are d c) (rest-are d c)
-
-pub slice_bounds-split-end : goal.slice_bounds-split-end
-slice_bounds-split-end c = simp length-take (omega arith)
-
-pub slice_bounds-split-end-3 : goal.slice_bounds-split-end-3
-slice_bounds-split-end-3 c = simp length-take (omega arith)
-
-pub slice_bounds-split-end-5 : goal.slice_bounds-split-end-5
-slice_bounds-split-end-5 c = simp length-take (omega arith)
-
-pub slice_bounds-split-end-7 : goal.slice_bounds-split-end-7
-slice_bounds-split-end-7 c = simp length-take (omega arith)
-
-pub split-requires : goal.split-requires
-split-requires c = simp length-take (omega arith)
-
-pub slice_bounds-sum_squares-end : goal.slice_bounds-sum_squares-end
-slice_bounds-sum_squares-end c = (lane_in_lem on_a (goal.at.slice_bounds-sum_squares-end c).After-split_in_order).reach
-
-pub slice_bounds-sum_squares-end-2 : goal.slice_bounds-sum_squares-end-2
-slice_bounds-sum_squares-end-2 c = (lane_in_lem on_a (goal.at.slice_bounds-sum_squares-end-2 c).After-split_in_order-arg-4-1).count
-
-pub sum_squares-requires : goal.sum_squares-requires
-sum_squares-requires c = (lane_in_lem on_a (goal.at.sum_squares-requires c).After-split_in_order-arg-4-1).few
-
-pub slice_bounds-sum_squares-end-3 : goal.slice_bounds-sum_squares-end-3
-slice_bounds-sum_squares-end-3 c = (lane_in_lem on_b (goal.at.slice_bounds-sum_squares-end-3 c).After-split_in_order-arg-4-1).reach
-
-pub slice_bounds-sum_squares-end-4 : goal.slice_bounds-sum_squares-end-4
-slice_bounds-sum_squares-end-4 c = (lane_in_lem on_b (goal.at.slice_bounds-sum_squares-end-4 c).After-split_in_order-arg-3-1).count
-
-pub sum_squares-requires-2 : goal.sum_squares-requires-2
-sum_squares-requires-2 c = (lane_in_lem on_b (goal.at.sum_squares-requires-2 c).After-split_in_order-arg-3-1).few
-
-pub slice_bounds-sum_squares-end-5 : goal.slice_bounds-sum_squares-end-5
-slice_bounds-sum_squares-end-5 c = (lane_in_lem on_c (goal.at.slice_bounds-sum_squares-end-5 c).After-split_in_order-arg-3-1).reach
-
-pub slice_bounds-sum_squares-end-6 : goal.slice_bounds-sum_squares-end-6
-slice_bounds-sum_squares-end-6 c = (lane_in_lem on_c (goal.at.slice_bounds-sum_squares-end-6 c).After-split_in_order-arg-2-1).count
-
-pub sum_squares-requires-3 : goal.sum_squares-requires-3
-sum_squares-requires-3 c = (lane_in_lem on_c (goal.at.sum_squares-requires-3 c).After-split_in_order-arg-2-1).few
-
-pub shape_of-a : goal.shape_of-a
-shape_of-a c = (lane_in_lem on_a (goal.at.shape_of-a c).After-split_in_order-arg-2-1).long
-
-pub shape_of-b : goal.shape_of-b
-shape_of-b c = (lane_in_lem on_b (goal.at.shape_of-b c).After-split_in_order-arg-2-1).long
-
-pub shape_of-c : goal.shape_of-c
-shape_of-c c = (lane_in_lem on_c (goal.at.shape_of-c c).After-split_in_order-arg-2-1).long
-
---! path c.before.before.before.before.sum_squares.ensures at After-sum_squares3
---! path c.before.before.sum_squares2.ensures at After-sum_squares3
 pub returns : goal.returns
 returns c =
-    let a = c.sum_squares.ensures in
-    let b = c.sum_squares2.ensures in
-    let d = c.sum_squares-3.ensures in
-    let on-a = lane_in_lem on_a (goal.at.returns c).After-split_in_order-arg-2-1 in
-    let on-b = lane_in_lem on_b (goal.at.returns c).After-split_in_order-arg-2-1 in
-    let on-c = lane_in_lem on_c (goal.at.returns c).After-split_in_order-arg-2-1 in (
-      parts (triples_of (block_in (goal.at.returns c).After-split_in_order-arg-2-1)) (a.0 ∙ on-a.part) (b.0 ∙ on-b.part) (d.0 ∙ on-c.part) a.1 b.1 d.1,
+    let m = c.row_length-m.result in
+    let block = c.args.block.now in
+    let a = c.args.a.now in
+    let b = c.args.b.now in
+    let d = c.args.c.now in
+    let asked = c.requires in
+    let few = c.row_length-m.ensures in
+    let rows = c.split in
+    let rest = c.split_in_order in
+    let on-a = lane-is on_a m block a a rows.new.a rest.new.a asked.0 asked.1 asked.2 asked.2 few rows.ensures.0 rest.ensures.0 in
+    let on-b = lane-is on_b m block a b rows.new.b rest.new.b asked.0 asked.1 asked.2 asked.3 few rows.ensures.1 rest.ensures.1 in
+    let on-c = lane-is on_c m block a d rows.new.c rest.new.c asked.0 asked.1 asked.2 asked.4 few rows.ensures.2 rest.ensures.2 in
+    let p = c.sum_squares.ensures in
+    let q = c.sum_squares-2.ensures in
+    let r = c.sum_squares-3.ensures in (
+      parts (triples_of block) (p.0 ∙ on-a.part) (q.0 ∙ on-b.part) (r.0 ∙ on-c.part) p.1 q.1 r.1,
       on-a.holds,
       on-b.holds,
       on-c.holds,
