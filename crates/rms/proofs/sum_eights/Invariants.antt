@@ -5,11 +5,11 @@ use Rattle.rms.proofs.Passed.{Passed, sum_of, mark_of}
 use Rattle.rms.proofs.sum_eights.Given as goal
 
 pub record Turned (xs : List ℤ) (turn : ℕ) (p q r s : Pair) : Type 0 where
-  passed : Passed xs (8 * turn) (sum_of p q r s) (mark_of p q r s)
-  first_le : p.squares ≤ turn * 2 ^ 31
-  second_le : q.squares ≤ turn * 2 ^ 31
-  third_le : r.squares ≤ turn * 2 ^ 31
-  fourth_le : s.squares ≤ turn * 2 ^ 31
+  pub passed : Passed xs (8 * turn) (sum_of p q r s) (mark_of p q r s)
+  pub first_le : p.squares ≤ turn * 2 ^ 31
+  pub second_le : q.squares ≤ turn * 2 ^ 31
+  pub third_le : r.squares ≤ turn * 2 ^ 31
+  pub fourth_le : s.squares ≤ turn * 2 ^ 31
 
 abbrev pub invariant-loop-turn : goal.invariant-loop-turn
 invariant-loop-turn l = (l.turn ≤ l.eights) × Turned l.samples l.turn l.first l.second l.third l.fourth

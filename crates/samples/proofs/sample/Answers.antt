@@ -1,6 +1,7 @@
 -- Both arms are the number in two's complement.
 use Prim.Native.Nat.{◌+◌, ◌*◌}
 use native.Mathlib.Omega.{arith}
+use Rattle.samples.specs.Samples.{sample_of}
 use Rattle.samples.specs.SamplesLaws.{signed_low, signed_high}
 use Rattle.samples.proofs.sample.Goals as goal
 

@@ -1,5 +1,6 @@
 -- Each way out is the definition's, by the test that led there.
 use Rattle.std.proofs.Common.{le-ltb, lt-ltb}
+use Rattle.rms.specs.Gather.{cut}
 use Rattle.rms.proofs.Gatherer.cut.Goals as goal
 
 pub returns-then-samples-missing : goal.returns-then-samples-missing
