@@ -7,7 +7,7 @@ use Rattle.numbers.specs.Notation.{if◌then◌else◌, flag}
 use Rattle.numbers.specs.NotationLaws.{flag-most, flag-none}
 use Rattle.reading.specs.Values.{squares, rms}
 use Rattle.reading.specs.Clipping.{any_clipped}
-use Rattle.reading_laws.specs.RecordingsLaws.{squares-le, any_clipped-append, rms-le}
+use Rattle.reading_laws.specs.RecordingsLaws.{any_clipped-append, rms-le}
 use Rattle.rms.specs.declared.Part.{Part}
 use Rattle.rms.specs.declared.Gatherer.{Gatherer}
 use Rattle.rms.specs.Gather.{part_of, with_part, with_half, value_with, value_from, ValidGatherer, PartFits}

@@ -1,5 +1,4 @@
 -- The measure is n: the call is at n / 4, which is less.
-use Rattle.std.proofs.Common.{ℕ}
 use Rattle.rms.proofs.+root.Given as goal
 
 abbrev pub decreases-root : goal.decreases-root

@@ -1,4 +1,4 @@
-use Rattle.std.proofs.Common.{◌≡◌, ◌+◌, ◌-◌, ◌*◌, refl, arith}
+use Rattle.std.proofs.Common.{◌≡◌, ◌+◌, ◌*◌, refl, arith}
 use Rattle.rms.proofs.Passed.{passed-eight, passed-part}
 use Rattle.rms.proofs.sum_eights.Goals as goal
 

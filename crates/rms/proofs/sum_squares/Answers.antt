@@ -14,7 +14,7 @@ loop-i-preserved c =
     let l = c.loop-i in
     let xs = c.args.samples.now in
     let end = length xs - length xs % 8 in
-    let one = squared-is (get_or xs (end + l.i) (pos 0)) (record { sfits = c.square-arg-1.given }) c.square-one.ensures.0 in
+    let one = squared-is (get_or xs (end + l.i) (pos 0)) (record { sfits = omega arith }) c.square-one.ensures.0 in
     let next : end + (l.i + 1) ≡ end + l.i + 1 = omega arith in
     (omega arith, omega arith, omega arith, rw (next, one) (passed-one l.invariant.3 (omega arith)))
 

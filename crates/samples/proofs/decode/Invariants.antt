@@ -1,7 +1,7 @@
 -- At k: the first k places hold the first k samples.
 use mathlib.Core.Path.{◌≡◌}
 use mathlib.Core.List.{◌++◌}
-use Prim.Native.Nat.{◌+◌, ◌-◌, ◌*◌, ◌≤◌}
+use Prim.Native.Nat.{◌-◌, ◌*◌, ◌≤◌}
 use lib.ListN.{length, take, drop}
 use Rattle.samples.specs.Samples.{samples_of}
 use Rattle.samples.proofs.decode.Given as goal
