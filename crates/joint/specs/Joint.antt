@@ -50,10 +50,10 @@ use Rattle.joint.specs.declared.Standings.{Standings}
 abbrev pub sizes_of : Values → Three ℕ
 sizes_of x = record { a = x.a; b = x.b; c = x.c }
 
-abbrev pub field_own : Channel → Joint → Own
-field_own on_a j = j.a
-field_own on_b j = j.b
-field_own on_c j = j.c
+abbrev pub own_at : Channel → Joint → Own
+own_at on_a j = j.a
+own_at on_b j = j.b
+own_at on_c j = j.c
 
 -- the value of one channel, with the mark of the joint value; and the sums of its window, with those of the joint marks
 abbrev pub marked_at : Channel → Values → Marked
@@ -181,7 +181,7 @@ module _ (s : Settings) (x : Values) (j : Joint) (ws : Three (List ℕ)) (ms : L
 
   -- what joins the windows, with the joint dips and swells at it
   abbrev pub entering_at : Stands → Channel → Entering
-  entering_at stands c = entering_of s j.count (at c ws) ms (marked_at c x) stands (field_own c j)
+  entering_at stands c = entering_of s j.count (at c ws) ms (marked_at c x) stands (own_at c j)
 
   abbrev pub entered_of : Stands → Entered
   entered_of stands = record { a = entering_at stands on_a; b = entering_at stands on_b; c = entering_at stands on_c }
@@ -258,8 +258,8 @@ pub record ValidJoint (n : ℕ) (j : Joint) : Type 0 where
   pub dip-valid : ValidStanding j.count j.dip
   pub swell-valid : ValidStanding j.count j.swell
   pub interruption-valid : ValidStanding j.count j.interruption
-  pub signal-valid : (c : Channel) → ValidSignal n j.count (field_own c j).signal
-  pub phase-valid : (c : Channel) → ValidPhase n j.count (field_own c j).phase
+  pub signal-valid : (c : Channel) → ValidSignal n j.count (own_at c j).signal
+  pub phase-valid : (c : Channel) → ValidPhase n j.count (own_at c j).phase
 
 -- what the code's step of one channel needs: t is scaled from the settings
 pub record EnterReady (s : Settings) (t : Scaled) (v : ℕ) (w ms : List ℕ) (a : Sums) (y : Marked) (o : Own) : Type 0 where

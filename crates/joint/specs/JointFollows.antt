@@ -1,9 +1,8 @@
 -- One value of each channel follows the history of three: stepped by it, what is kept is what the longer history leaves, and the records due are the reading's.
-use Rattle.std.specs.Prelude.{◌≡◌, refl, Bool, true, false, ◌&&◌, ◌||◌, ℕ, suc, ◌+◌, ◌-◌, ◌≤◌, ◌<◌, max, length, drop}
+use Rattle.std.specs.Prelude.{◌≡◌, refl, Bool, true, false, ◌&&◌, ◌||◌, List, [], ◌∷◌, ◌++◌, map, ℕ, suc, ◌+◌, ◌-◌, ◌≤◌, ◌<◌, max, length, drop}
 use Rattle.std.proofs.Math.Path.{sym, ap₂}
 use Rattle.std.proofs.Common.{◌∙◌, ap, subst, arith}
-use mathlib.Core.List.{List, [], ◌∷◌, ◌++◌, map, map-append}
-use Rattle.std.proofs.lemmas.List.{length-map}
+use Rattle.std.proofs.lemmas.List.{length-map, map-append}
 use Rattle.numbers.specs.Notation.{◌≤ᵇ◌, ◌<ᵇ◌, ◌≡ᵇ◌, if◌then◌else◌, flag}
 use Rattle.settings.specs.declared.Settings.{Settings}
 use Rattle.settings.specs.Settings.{window_length_of}
@@ -220,7 +219,10 @@ module _ (s : Settings) (r : Three ℕ) (older : List (Three ℕ)) (clipped : Bo
     beside-own = beside ∙ sym same
 
     begun : from hist (suc (length own)) ≡ (if stands.first || stands.before then suc (length own) else 0)
-    begun = rw same (kept-begins (stands_now s) (joint_first_stand s) (λ k. refl) (λ k r older. refl) (joint_dip_or_swell s) r older)
+    begun =
+        subst (λ (v : ℕ). from hist (suc v) ≡ (if stands_now s hist || joint_dip_or_swell s older then suc v else 0))
+        (sym same)
+        (kept-begins (stands_now s) (joint_first_stand s) (λ k. refl) (λ k r older. refl) (joint_dip_or_swell s) r older)
 
     grows : (k : ℕ) → 0 < k → k ≤ length own → from hist k ≡ (if 0 <ᵇ from older k then from older k else if stands.first then suc (length own) else 0)
     grows k some h = rw same (kept-grows (stands_now s) (joint_first_stand s) (λ k. refl) (λ k r older. refl) (joint_dip_or_swell s) k r older some (omega (arith, same)))

@@ -1,7 +1,6 @@
 -- What is ready for all three channels is ready for each (`enter-ready`).
 use Rattle.three_reading.specs.Three.Channel.{on_a, on_b, on_c}
 use Rattle.joint.specs.JointLaws.{enter-ready, entered-is}
-use Rattle.joint.proofs.Joint.enter.Goals.{After-enter, After-enter-2, After-enter-3}
 use Rattle.joint.proofs.Joint.enter.Goals as goal
 
 pub enter-requires : goal.enter-requires
@@ -21,7 +20,7 @@ returns c =
     let ready = c.requires in
     let stands = c.args.stands in
     λ i. record {
-      (goal.at.returns c).After-enter = entered-is ready stands on_a c.of_a-2.ensures c.enter.ensures i;
-      (goal.at.returns c).After-enter-2 = entered-is ready stands on_b c.of_b-2.ensures c.enter-2.ensures i;
-      (goal.at.returns c).After-enter-3 = entered-is ready stands on_c c.of_c-2.ensures c.enter-3.ensures i;
+      a = entered-is ready stands on_a c.of_a-2.ensures c.enter.ensures i;
+      b = entered-is ready stands on_b c.of_b-2.ensures c.enter-2.ensures i;
+      c = entered-is ready stands on_c c.of_c-2.ensures c.enter-3.ensures i;
     }

@@ -1,5 +1,4 @@
 -- No event stands, and no channel has a value.
-use Rattle.joint.proofs.Joint.new.Goals.{After-new-3}
 use Rattle.joint.proofs.Joint.new.Goals as goal
 
 pub returns : goal.returns
@@ -12,5 +11,5 @@ returns c =
       interruption = none i;
       a = c.new.ensures i;
       b = c.new-2.ensures i;
-      (goal.at.returns c).After-new-3 = c.new-3.ensures i;
+      c = c.new-3.ensures i;
     }

@@ -1,5 +1,5 @@
 -- The window is joined and the own signal tested as in one channel alone; the parts are put together by `entering-is`.
-use native.Mathlib.Omega.{arith}
+use Rattle.std.proofs.Common.{arith}
 use Rattle.joint.specs.JointLaws.{enters-window, enters-test, entering-is}
 use Rattle.joint.proofs.Own.enter.Goals as goal
 
@@ -7,7 +7,7 @@ pub join_window-joined-requires : goal.join_window-joined-requires
 join_window-joined-requires c =
     let ready = c.requires in
     let n = c.window_length-window_length.ensures in
-    (omega (arith, n.1), n.2, ready.count_lt, enters-window ready n.0)
+    (omega (arith, n.1), n.2, ready.count-lt, enters-window ready n.0)
 
 pub is_true-truth-requires : goal.is_true-truth-requires
 is_true-truth-requires c =
