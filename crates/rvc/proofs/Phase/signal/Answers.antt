@@ -1,6 +1,5 @@
 -- In each arm the phase is known.
 use Rattle.rvc.proofs.Phase.signal.Goals as goal
 
--- src/lib.rt:231:5
 pub returns-in-Changing : goal.returns-in-Changing
 returns-in-Changing c = rw c.in-Changing.is
