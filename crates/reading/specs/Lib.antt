@@ -10,4 +10,3 @@ pub mod Feed
 pub mod Calls
 pub mod Engineer
 pub mod Bench
-pub mod BenchProof
