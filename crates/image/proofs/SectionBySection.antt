@@ -11,7 +11,7 @@ use Rattle.numbers.specs.NotationLaws.{refuse-fails, refuse-passes, back-flag}
 use Rattle.numbers.specs.Answers.{Answered, answered}
 use Rattle.numbers.specs.Answers.Answered.{accepted, refused}
 use Rattle.numbers.specs.Rules.{Rule, passes}
-use Rattle.numbers.specs.RulesLaws.{holds}
+use Rattle.numbers.proofs.RulesLaws.{holds}
 use Rattle.settings.specs.declared.Settings.{Settings}
 use Rattle.settings.specs.Settings.{window_length_of, settings_of, start_refusal, settings_read}
 use Rattle.reading.specs.Layout.{count_width, places, table_length, gatherer_length, events_length, image_length, gatherer_offset, events_offset}

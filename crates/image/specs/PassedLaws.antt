@@ -6,7 +6,7 @@ use borrow.Author.Tests.{eqb-true, eq-eqb}
 use Rattle.numbers.specs.Notation.{◌≡ᵇ◌}
 use Rattle.numbers.specs.NotationLaws.{refuse-passes, refuse-none}
 use Rattle.numbers.specs.Rules.{passes, Holds}
-use Rattle.numbers.specs.RulesLaws.{holds, passed}
+use Rattle.numbers.proofs.RulesLaws.{holds, passed}
 use Rattle.settings.specs.declared.Settings.{Settings}
 use Rattle.settings.specs.Settings.{window_length_of, settings_of, start_refusal}
 use Rattle.reading.specs.Layout.{table_length, image_length_with}

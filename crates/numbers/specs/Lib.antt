@@ -3,4 +3,3 @@ pub mod NotationLaws
 pub mod Answers
 pub mod AnswersLaws
 pub mod Rules
-pub mod RulesLaws

@@ -2,7 +2,7 @@
 use mathlib.Core.Path.{◌≡◌, sym, ap, ◌∙◌}
 use mathlib.Core.Bool.{Bool, true, false, not}
 use Rattle.numbers.specs.Rules.{Rule, passes, Holds}
-use Rattle.numbers.specs.RulesLaws.{decides, holds, passed, answered-no, answered-yes}
+use Rattle.numbers.proofs.RulesLaws.{decides, holds, passed, answered-no, answered-yes}
 
 pub left_over : (r last : Rule) {b : Bool} → b ≡ passes last → (Holds last → Holds r) → (Holds r → Holds last) → b ≡ passes r
 left_over r last e f g = decides r _ (λ t. f (holds last (sym e ∙ t))) (λ h. e ∙ passed last (g h))

@@ -8,7 +8,7 @@ use lib.ListN.{length, take, drop, length-drop}
 use lib.Seq.{take_all}
 use Rattle.numbers.specs.Rules.{passes}
 use Rattle.numbers.specs.Rules.Rule.{all_up_to}
-use Rattle.numbers.specs.RulesLaws.{broken}
+use Rattle.numbers.proofs.RulesLaws.{broken}
 use Rattle.reading.specs.Restore.{places_rule}
 use Rattle.rules.proofs.Answers.{left_over, rejected, accepted}
 

@@ -10,7 +10,7 @@ use Rattle.numbers.specs.Notation.{◌≡ᵇ◌, if◌then◌else◌}
 use Rattle.numbers.specs.NotationLaws.{refuse-passes, refuse-none}
 use Rattle.numbers.specs.Rules.{passes, Holds}
 use Rattle.numbers.specs.Rules.Rule.{◌and◌}
-use Rattle.numbers.specs.RulesLaws.{holds, passed}
+use Rattle.numbers.proofs.RulesLaws.{holds, passed}
 use Rattle.numbers.specs.Answers.{answered}
 use Rattle.numbers.specs.Answers.Answered.{accepted, refused}
 use Rattle.numbers.specs.AnswersLaws.{accepted-is, refused-is}

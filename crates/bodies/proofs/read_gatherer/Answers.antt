@@ -8,7 +8,7 @@ use Rattle.octets.specs.Bytes.{numbers_in}
 use Rattle.numbers.specs.Notation.{refuse◌unless◌then◌}
 use Rattle.numbers.specs.Answers.{Answered, answered}
 use Rattle.numbers.specs.Rules.{passes}
-use Rattle.numbers.specs.RulesLaws.{holds}
+use Rattle.numbers.proofs.RulesLaws.{holds}
 use Rattle.settings.specs.declared.Settings.{Settings}
 use Rattle.reading.specs.Layout.{gatherer_widths}
 use Rattle.reading.specs.Restore.{gatherer_rule}

@@ -6,7 +6,7 @@ use native.Mathlib.Omega.{arith}
 use lib.ListN.{length, get_or}
 use borrow.Author.Tests.{eqb-true, eq-eqb}
 use Rattle.numbers.specs.Rules.Rule.{◌≡ʳ◌, ◌and◌, all_zero}
-use Rattle.numbers.specs.RulesLaws.{broken, decides}
+use Rattle.numbers.proofs.RulesLaws.{broken, decides}
 use Rattle.rules.proofs.change_zero.Goals as goal
 
 -- behind its last number a list has 0

@@ -3,7 +3,7 @@ use mathlib.Core.List.{List}
 use Prim.Native.Nat.{ℕ, ◌+◌}
 use lib.ListN.{get_or}
 use Rattle.numbers.specs.Rules.{Rule}
-use Rattle.numbers.specs.RulesLaws.{broken}
+use Rattle.numbers.proofs.RulesLaws.{broken}
 use Rattle.reading.specs.Restore.{phase_rule, standing_rule, events_rule}
 use Rattle.rules.proofs.Answers.{left_over, rejected, accepted}
 use Rattle.rules.proofs.events_good.Goals as goal

@@ -3,7 +3,7 @@ use Prim.Native.Nat.{◌+◌, ◌-◌}
 use native.Mathlib.Omega.{arith}
 use borrow.Author.Tests.{ltb-true, lt-ltb}
 use Rattle.numbers.specs.Rules.Rule.{◌<ʳ◌}
-use Rattle.numbers.specs.RulesLaws.{decides}
+use Rattle.numbers.proofs.RulesLaws.{decides}
 use Rattle.rules.proofs.is_early.Goals as goal
 
 pub returns : goal.returns

@@ -2,7 +2,7 @@
 use native.Mathlib.Omega.{arith}
 use lib.ListN.{take, drop}
 use Rattle.numbers.specs.Rules.Rule.{◌≡ʳ◌, ◌and◌, all_zero}
-use Rattle.numbers.specs.RulesLaws.{broken}
+use Rattle.numbers.proofs.RulesLaws.{broken}
 use Rattle.reading.specs.Restore.{change_rule, phase_rule}
 use Rattle.rules.proofs.Answers.{left_over}
 use Rattle.rules.proofs.phase_good.Goals as goal

@@ -2,7 +2,7 @@
 use mathlib.Core.Path.{sym}
 use native.Mathlib.Omega.{arith}
 use borrow.Author.Tests.{leb-true, le-leb}
-use Rattle.numbers.specs.RulesLaws.{decides, passed}
+use Rattle.numbers.proofs.RulesLaws.{decides, passed}
 use Rattle.reading.specs.Restore.{stand_rule}
 use Rattle.rules.proofs.stand_good.Goals as goal
 

@@ -1,7 +1,7 @@
 -- Each test that fails breaks the rule; what the tests leave decides it.
 use native.Mathlib.Omega.{arith}
 use Rattle.numbers.specs.Rules.Rule.{◌≡ʳ◌, ◌implies◌}
-use Rattle.numbers.specs.RulesLaws.{broken}
+use Rattle.numbers.proofs.RulesLaws.{broken}
 use Rattle.reading.specs.Restore.{mark_rule, standing_rule}
 use Rattle.rules.proofs.Answers.{left_over, rejected, accepted}
 use Rattle.rules.proofs.standing_good.Goals as goal

@@ -9,7 +9,7 @@ use lib.Seq.{take_at, drop_at}
 use Rattle.numbers.specs.Notation.{flag}
 use Rattle.numbers.specs.Rules.{Rule, passes}
 use Rattle.numbers.specs.Rules.Rule.{◌≤ʳ◌, ◌and◌}
-use Rattle.numbers.specs.RulesLaws.{broken}
+use Rattle.numbers.proofs.RulesLaws.{broken}
 use Rattle.reading.specs.Feed.{last_value}
 use Rattle.reading.specs.Restore.{value_most, whole_rule, places_rule, values_rule}
 use Rattle.rules.proofs.Answers.{left_over, rejected, accepted}

@@ -3,7 +3,7 @@ use mathlib.Core.Path.{sym, ap}
 use native.Mathlib.Omega.{arith}
 use borrow.Author.Tests.{eqb-true, eq-eqb}
 use Rattle.numbers.specs.Notation.{flag}
-use Rattle.numbers.specs.RulesLaws.{decides, passed}
+use Rattle.numbers.proofs.RulesLaws.{decides, passed}
 use Rattle.reading.specs.Restore.{whole_rule}
 use Rattle.rules.proofs.whole_good.Goals as goal
 
