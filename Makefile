@@ -1,6 +1,7 @@
 # The library for programs in C and C++, under the name pqmeter (libpq is PostgreSQL's).
 #
 #   make              proves the code and makes the static library, by rt, where the code is newer than the library
+#   make programs     the same for the programs, into target/bin
 #   make install      also copies library, header and pages below PREFIX, and tells pkg-config of them; DESTDIR stands before it all, for a package
 #   make uninstall    removes them
 #
@@ -12,7 +13,8 @@ DOCDIR ?= $(PREFIX)/share/doc/pqmeter
 DESTDIR ?=
 
 LIBRARY := target/staticlib/libhost.a
-CODE := crates.txt $(shell find crates -name '*.rt' -o -name '*.antt')
+PROGRAMS := $(addprefix target/bin/,event_log event_log_three call_lists call_lists_three)
+CODE := crates.txt $(shell find crates -name out -prune -o \( -name '*.rt' -o -name '*.antt' \) -print)
 PAGES := RULES.md INTEGRATION.md
 VERSION := $(shell awk '$$2 ~ /^PQ_VERSION_(MAJOR|MINOR|PATCH)$$/ { version = version dot $$3; dot = "." } END { print version }' include/pq.h)
 
@@ -32,7 +34,15 @@ export PKG_CONFIG_FILE
 all: $(LIBRARY)
 
 $(LIBRARY): $(CODE)
-	rt staticlib host
+	cd crates/host && rt lib
+	install -D -m 644 crates/host/out/libhost.a $@
+
+# rt builds a program and runs it: here on nothing.
+$(PROGRAMS): target/bin/%: $(CODE)
+	cd crates/$* && rt run </dev/null >/dev/null
+	install -D crates/$*/out/$* $@
+
+programs: $(PROGRAMS)
 
 install: $(LIBRARY)
 	install -d "$(DESTDIR)$(LIBDIR)/pkgconfig" "$(DESTDIR)$(INCLUDEDIR)/pqmeter" "$(DESTDIR)$(DOCDIR)"
@@ -47,4 +57,4 @@ uninstall:
 	rm -f $(PAGES:%="$(DESTDIR)$(DOCDIR)/%")
 	for folder in "$(DESTDIR)$(INCLUDEDIR)/pqmeter" "$(DESTDIR)$(DOCDIR)"; do if [ -d "$$folder" ]; then rmdir "$$folder"; fi; done
 
-.PHONY: all install uninstall
+.PHONY: all programs install uninstall

@@ -6,8 +6,7 @@
 set -euo pipefail
 cd "$(dirname "$0")/.."
 [ $# = 3 ] || { echo "bash outside/compare.sh CASES LISTS SEED" >&2; exit 2; }
-rt staticlib host
-rt check event_log call_lists event_log_three call_lists_three
+make --no-print-directory all programs
 export PROVED_LIB_DIR=$PWD/target/staticlib
 cargo build --release --offline --quiet --features proved --manifest-path outside/Cargo.toml
 programs=${CARGO_TARGET_DIR:-outside/target}/release

@@ -7,9 +7,10 @@ work=$(mktemp -d)
 trap 'rm -rf "$work"' EXIT
 places=("DESTDIR=$work/root" PREFIX=/opt/meter LIBDIR=/opt/meter/lib64)
 mkdir -p "$work/bin" "$work/copy/target/staticlib"
-printf '#!/bin/sh\necho "rt $*" >>"%s/called"\ntouch target/staticlib/libhost.a\n' "$work" >"$work/bin/rt"
+printf '#!/bin/sh\necho "rt $*" >>"%s/called"\nmkdir -p out && cp "%s/libhost.a" out\n' "$work" "$work" >"$work/bin/rt"
 chmod +x "$work/bin/rt"
-cp -r Makefile crates crates.txt docs include "$work/copy"
+tar -c --exclude=out Makefile crates crates.txt docs include | tar -x -C "$work/copy"
+cp target/staticlib/libhost.a "$work"
 cp target/staticlib/libhost.a "$work/copy/target/staticlib"
 
 # made WORDS..: make in the copy.
@@ -23,7 +24,7 @@ for changed in crates/host/src/lib.rt crates/host/specs/Lib.antt crates.txt; do
     touch "$work/copy/$changed"
     made install
     made install
-    [ "$(cat "$work/called")" = "rt staticlib host" ] || { echo "different: how often the library is made where $changed is newer"; exit 1; }
+    [ "$(cat "$work/called")" = "rt lib" ] || { echo "different: how often the library is made where $changed is newer"; exit 1; }
     rm "$work/called"
 done
 for page in RULES INTEGRATION; do
