@@ -1,7 +1,6 @@
 -- Each reading is the called function's, for the window length of the settings.
-use mathlib.Core.Path.{◌∙◌, ap}
-use Prim.Native.Nat.{ℕ, ◌-◌, min}
-use lib.ListN.{take, get_or}
+use Rattle.std.specs.Prelude.{ℕ, ◌-◌, min, take, get_or}
+use Rattle.std.proofs.Common.{◌∙◌, ap}
 use Rattle.numbers.specs.Notation.{◌<ᵇ◌, if◌then◌else◌}
 use Rattle.reading.specs.Changes.{sum}
 use Rattle.three_state.proofs.look_at.Goals as goal

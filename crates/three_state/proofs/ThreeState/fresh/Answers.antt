@@ -1,8 +1,8 @@
 -- The parts are those of a fresh logger.
-use mathlib.Core.Path.{◌≡◌, sym, subst}
+use Rattle.std.specs.Prelude.{◌≡◌}
+use Rattle.std.proofs.Common.{sym, subst}
 use Rattle.three_state.specs.ThreeState.{windows_in, three_with, three_fresh, ValidThree}
 use Rattle.three_state.specs.ThreeStepValid.{three_fresh-valid}
-use Rattle.three_state.proofs.ThreeState.fresh.Goals.{After-new}
 use Rattle.three_state.proofs.ThreeState.fresh.Goals as goal
 
 pub returns : goal.returns
@@ -11,6 +11,6 @@ returns c =
     let s = c.args.settings in
     let g = c.new-none.result in
     let none = c.new-none.ensures in
-    let is : three_with s (record { a = g; b = g; (goal.at.returns c).After-new = g }) c.new.result (windows_in (three_fresh s)) (three_fresh s).marks ≡ three_fresh s =
-    λ i. three_with s (record { a = none i; b = none i; (goal.at.returns c).After-new = none i }) (c.new.ensures i) (windows_in (three_fresh s)) (three_fresh s).marks in
+    let is : three_with s (record { a = g; b = g; c = g }) c.new.result (windows_in (three_fresh s)) (three_fresh s).marks ≡ three_fresh s =
+    λ i. three_with s (record { a = none i; b = none i; c = none i }) (c.new.ensures i) (windows_in (three_fresh s)) (three_fresh s).marks in
     (is, subst ValidThree (sym is) (three_fresh-valid s c.requires))
