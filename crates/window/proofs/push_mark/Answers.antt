@@ -1,5 +1,5 @@
 -- Where the window's marks add up to 0 and the new one is 0, they are the pushed ones already.
-use Rattle.std.proofs.Common.{◌≡◌, sym, ap, ◌∙◌, eqb-true}
+use Rattle.std.proofs.Common.{sym, ap, ◌∙◌, eqb-true}
 use Rattle.numbers.specs.Notation.{◌≡ᵇ◌}
 use Rattle.numbers.specs.NotationLaws.{and_left, and_right}
 use Rattle.window.specs.Window.{pushed}

@@ -1,4 +1,4 @@
-use Rattle.std.proofs.Common.{◌-◌, ap, ◌∙◌, arith, take_all}
+use Rattle.std.proofs.Common.{ap, ◌∙◌, arith, take_all}
 use Rattle.reading.specs.Changes.{sum as sum_of}
 use Rattle.window.proofs.OneMore.{sum_more}
 use Rattle.window.proofs.sum_marks.Goals as goal
