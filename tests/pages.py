@@ -9,7 +9,7 @@ import sys
 from pathlib import Path
 
 TOP = Path(__file__).resolve().parent.parent
-ALL = {path.relative_to(TOP) for path in TOP.rglob("*") if not {".git", "target"} & set(path.relative_to(TOP).parts)}
+ALL = {path.relative_to(TOP) for path in TOP.rglob("*") if not {".git", "target", "out"} & set(path.relative_to(TOP).parts)}
 NAMES = {path.name for path in ALL}
 CRATES = [path for path in ALL if path.match("crates/*")]
 RULES = Path("docs/RULES.md")
