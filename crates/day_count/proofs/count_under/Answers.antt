@@ -1,11 +1,11 @@
 -- Each way out is a refusal of the chain, or the end of it.
 use mathlib.Core.Path.{◌≡◌, refl, sym, ◌∙◌, ap}
-use mathlib.Core.Bool.{Bool, true, false, not}
+use mathlib.Core.Bool.{Bool, true, false}
 use mathlib.Core.List.{List}
 use Prim.Native.Nat.{ℕ, ◌%◌, ◌≤◌, ◌<◌}
 use native.Mathlib.Omega.{arith}
 use lib.ListN.{length}
-use borrow.Author.Tests.{lt-ltb, le-ltb, not-true, not-false}
+use borrow.Author.Tests.{lt-ltb, le-ltb, eq-eqb, ne_eqb}
 use Rattle.numbers.specs.Notation.{◌<ᵇ◌, ◌≡ᵇ◌, all, refuse◌unless◌then◌}
 use Rattle.numbers.specs.Answers.{Answered, answered}
 use Rattle.numbers.specs.Answers.Answered.{accepted, refused}
@@ -44,23 +44,23 @@ module _ (s : Settings) (b : List ℕ) (z : ℕ) (above : Bool) (day : ℕ) wher
         ap (λ (u : Tally). goes true whole u.known) is
         ∙ (sym (ap (λ (w : Bool). goes w whole (all known_kind (kinds (events_of b)))) (lt-ltb z (day_length s) below)) ∙ answer-is)
 
-    length-refused : not whole ≡ true → AnswerIs (refused 16)
-    length-refused h = sym (ap (λ (w : Bool). goes true w t.known) (not-true whole h)) ∙ behind-z
+    length-refused : (length b % record_length ≡ 0 → ⊥) → AnswerIs (refused 16)
+    length-refused h = sym (ap (λ (w : Bool). goes true w t.known) (ne_eqb (length b % record_length) 0 h)) ∙ behind-z
 
-    module _ (whole_is : not whole ≡ false) where
+    module _ (whole_is : length b % record_length ≡ 0) where
       behind-length : AnswerIs (goes true true t.known)
-      behind-length = sym (ap (λ (w : Bool). goes true w t.known) (not-false whole whole_is)) ∙ behind-z
+      behind-length = sym (ap (λ (w : Bool). goes true w t.known) (eq-eqb (length b % record_length) 0 whole_is)) ∙ behind-z
 
-      kind-refused : not t.known ≡ true → AnswerIs (refused 17)
-      kind-refused h = sym (ap (goes true true) (not-true t.known h)) ∙ behind-length
+      kind-refused : t.known ≡ false → AnswerIs (refused 17)
+      kind-refused h = sym (ap (goes true true) h) ∙ behind-length
 
-      day-counted : not t.known ≡ false → (second first : Capped) → second ≡ capped above t.second → first ≡ capped above t.first
+      day-counted : t.known ≡ true → (second first : Capped) → second ≡ capped above t.second → first ≡ capped above t.first
           → AnswerIs (accepted (record { second = second; first = first }))
       unfolding day_count
       day-counted h second first second_is first-is =
           (λ i. accepted (record { second = second_is i; first = first-is i }))
           ∙ ((λ i. accepted (record { second = capped above (is i).second; first = capped above (is i).first }))
-          ∙ (sym (ap (goes true true) (not-false t.known h)) ∙ behind-length))
+          ∙ (sym (ap (goes true true) h) ∙ behind-length))
 
 -- z is below a day where the tally is made
 below : (c : After-tally_list-tally) → c.args.z < day_length c.args.settings

@@ -10,7 +10,7 @@ overflow_mul-result c = omega (arith, mul-le-mul c.requires c.window_length.ensu
 
 pub overflow_mul-result-2 : goal.overflow_mul-result-2
 overflow_mul-result-2 c =
-    let declared : c.args.settings.declared ≤ 4294967295 = omega (arith, c.struct_known-1.given) in
+    let declared : c.args.settings.declared ≤ 4294967295 = omega arith in
     omega (arith, mul-le-mul (mul-le-mul c.requires c.window_length.ensures.2) declared)
 
 pub returns : goal.returns
