@@ -5,7 +5,7 @@ use Prim.Native.Nat.{ℕ, ◌+◌, ◌-◌, ◌*◌}
 use native.Mathlib.Omega.{arith}
 use lib.ListN.{length, take, drop, length-append, length-take, length-drop}
 use lib.Seq.{take-add, drop-drop}
-use borrow.Rule.Slice.PartMut.{put_mid, mid_len}
+use borrow.Rule.Slice.PartMut.{put_mid, mid_len, same_len_mid}
 use Rattle.octets.specs.Bytes.{row, numbers_in, total}
 use Rattle.octets.specs.PartsLaws.{put_next, put_last}
 use Rattle.reading.specs.Layout.{gatherer_offset, gatherer_length, values_widths_with, events_offset_with, events_widths_with, image_length_with}
@@ -13,7 +13,6 @@ use Rattle.reading.specs.Image.{table_with}
 use Rattle.reading.specs.Restore.{part, settings_part}
 use Rattle.conversion.specs.Conversion.{image_as}
 use Rattle.conversion.specs.ImageAsLaws.{length-image_as, values_as, events_as, values-long}
-use Rattle.conversion.proofs.put_image.Goals.{After-put_events-arg-1, After-slice_known-5-1}
 use Rattle.conversion.proofs.put_image.Goals as goal
 
 -- settings and gatherer stand side by side
@@ -52,18 +51,18 @@ module _ (from to : ℕ) (b p : List ℕ) (size : length b ≡ image_length_with
 
 pub put_events-requires : goal.put_events-requires
 put_events-requires c =
-    (
+    let out = c.args.output.now in
+    let values = 100 + c.args.to + 600 in
+    let one = put_mid 0 32 out c.put_table.new.part in
+    let two = put_mid 32 68 one c.copy.new.part in
+    let first = same_len_mid 0 32 out c.put_table.new.part c.put_table.auto.part in
+    let second = same_len_mid 32 68 one c.copy.new.part c.copy.auto.part in
+    let third = same_len_mid 100 (values - 100) two c.put_values.new.part c.put_values.auto.part in (
       c.requires.0,
       c.requires.1,
       simp (length-take, length-drop) (omega (arith, c.requires.2)),
-      mid_len (100 + c.args.to + 600) (100 + c.args.to + 600 + 5 * c.args.to + 40) _ (part-put-events-end-2 (goal.at.put_events-requires c).After-put_events-arg-1) ∙ omega arith,
+      mid_len values (values + 5 * c.args.to + 40) _ (omega (arith, third ∙ (second ∙ first), c.requires.3)) ∙ omega arith,
     )
-
---! path start.pre.2 at Start
---! path start.pre.3 at Start
-pub shape_of-output : goal.shape_of-output
-shape_of-output c =
-    ap length (returns (goal.at.shape_of-output c).After-slice_known-5-1) ∙ (length-image_as c.args.from c.args.to c.args.image.now c.pre.2 ∙ sym c.pre.3)
 
 pub returns : goal.returns
 returns c =

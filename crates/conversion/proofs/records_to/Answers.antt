@@ -6,14 +6,6 @@ use Rattle.conversion.specs.Conversion.{converted_to}
 use Rattle.conversion.specs.RowsLaws.{has_room, not-whole, not_good, not-fit, no_room, all-converted}
 use Rattle.conversion.proofs.records_to.Goals as goal
 
-record-length-requires c κs = search rules
-
-record-length-requires-2 c κs = search rules
-
---! cannot read record-length-requires
-pub record_length-length-requires : goal.record_length-length-requires
-record-length-requires : tie.Need-record-length-requires
-
 pub returns-then-list-length-ne0 : goal.returns-then-list-length-ne0
 returns-then-list-length-ne0 c =
     let a = c.args in
@@ -26,7 +18,7 @@ returns-then-not-good c =
     let sized = c.record_length-length in
     let tested = c.test_records-tested in
     not_good a.from a.to sized.result _ a.list.now a.output.now sized.ensures.0 refl c.if-list-length-ne0.false
-    (sym tested.ensures.0 ∙ not-true tested.result.good c.if-not-good.true)
+    (sym tested.ensures.0 ∙ c.if-not-good.true)
 
 pub returns-then-not-fit : goal.returns-then-not-fit
 returns-then-not-fit c =
@@ -34,12 +26,8 @@ returns-then-not-fit c =
     let sized = c.record_length-length in
     let tested = c.test_records-tested in
     not-fit a.from a.to sized.result _ a.list.now a.output.now sized.ensures.0 refl c.if-list-length-ne0.false
-    (sym tested.ensures.0 ∙ not-false tested.result.good c.if-not-good.false)
-    (sym tested.ensures.1 ∙ not-true tested.result.fit c.if-not-fit.true)
-
---! cannot read record-length-requires-2
-pub record_length-requires : goal.record_length-requires
-record-length-requires-2 : tie.Need-record-length-requires-2
+    (sym tested.ensures.0 ∙ c.if-not-good.false)
+    (sym tested.ensures.1 ∙ c.if-not-fit.true)
 
 pub returns-then-output-record_length : goal.returns-then-output-record_length
 returns-then-output-record_length c =
@@ -49,8 +37,8 @@ returns-then-output-record_length c =
     let other-sized = c.record_length in
     no_room a.from a.to sized.result other-sized.result a.list.now a.output.now sized.ensures.0 other-sized.ensures.0
     c.if-list-length-ne0.false
-    (sym tested.ensures.0 ∙ not-false tested.result.good c.if-not-good.false)
-    (sym tested.ensures.1 ∙ not-false tested.result.fit c.if-not-fit.false)
+    (sym tested.ensures.0 ∙ c.if-not-good.false)
+    (sym tested.ensures.1 ∙ c.if-not-fit.false)
     c.if-output-record_length.true
 
 pub put_records-requires : goal.put_records-requires
@@ -70,6 +58,6 @@ returns c =
     ap (converted_to 0) c.put_records.ensures
     ∙ all-converted a.from a.to sized.result other-sized.result a.list.now a.output.now sized.ensures.0 other-sized.ensures.0
     c.if-list-length-ne0.false
-    (sym tested.ensures.0 ∙ not-false tested.result.good c.if-not-good.false)
-    (sym tested.ensures.1 ∙ not-false tested.result.fit c.if-not-fit.false)
+    (sym tested.ensures.0 ∙ c.if-not-good.false)
+    (sym tested.ensures.1 ∙ c.if-not-fit.false)
     c.if-output-record_length.false

@@ -8,24 +8,6 @@ use Rattle.conversion.specs.Conversion.{fits, good_row}
 use Rattle.conversion.specs.RowsLaws.{row-asked, row_read, all_more, all_tested}
 use Rattle.conversion.proofs.test_records.Goals as goal
 
-record-widths-requires c κs = search rules
-
-record-widths-requires-2 c κs = search rules
-
-record-length-requires c κs = search rules
-
---! cannot read record-widths-requires
-pub record_widths-widths-requires : goal.record_widths-widths-requires
-record-widths-requires : tie.Need-record-widths-requires invariant-loop decreases-loop
-
---! cannot read record-widths-requires-2
-pub record_widths-others-requires : goal.record_widths-others-requires
-record-widths-requires-2 : tie.Need-record-widths-requires-2 invariant-loop decreases-loop
-
---! cannot read record-length-requires
-pub record_length-length-requires : goal.record_length-length-requires
-record-length-requires : tie.Need-record-length-requires invariant-loop decreases-loop
-
 pub loop-at-init : goal.loop-at-init
 loop-at-init c = (omega arith, refl, refl)
 
@@ -45,7 +27,7 @@ loop-at-preserved c =
     let widths = c.record_widths-widths in
     let a = c.args in
     let get = c.get_row in
-    let numbers : List ℕ = get.new.widths.1.0 in
+    let numbers : List ℕ = get.new.numbers in
     let read = row_read a.from sized.result l.at a.list.now sized.ensures.0 widths.result widths.ensures numbers get.ensures in
     let more = all_more a.from sized.result l.at a.list.now sized.ensures.0 in (
       omega arith,

@@ -74,7 +74,12 @@ loop-share-smaller c =
     omega (arith, l.invariant.share_in, share-some l.invariant c.loop-share-test.true)
 
 pub loop-share-preserved : goal.loop-share-preserved
-loop-share-preserved c = ?
+loop-share-preserved c =
+    let l = c.loop-share in
+    let half = c.complete-half in
+    let behind = record_length * l.written in
+    walk-turns l.invariant c.loop-share-test.true c.sum_squares-part.ensures half.ensures (omega (arith, c.if-half-gt0.false)) c.cut-share-in-loop-share.result
+    c.cut-share-in-loop-share.ensures (same_len_mid behind (length l.records - behind) l.records half.new.records half.auto.records) half.auto.window half.auto.marks
 
 pub end_walk-requires-2 : goal.end_walk-requires-2
 end_walk-requires-2 c =
