@@ -6,4 +6,3 @@ pub mod ThreeFeed
 pub mod ThreeCalls
 pub mod ThreeEngineer
 pub mod ThreeBench
-pub mod ThreeBenchProof
