@@ -21,7 +21,7 @@ use Rattle.rvc.specs.PhaseValid.{phase-valid}
 use Rattle.rvc.specs.PhaseRuleLaws.{allowed-valid}
 use Rattle.rvc.specs.declared.Phase.TheVariants.{Filling}
 use Rattle.detection.specs.declared.Detector.{Detector}
-use Rattle.detection.specs.Detection.{step_of, detector_after, due_by, due_at, detector_of, ValidDetector}
+use Rattle.detection.specs.Detection.{step_of, stands_at, detector_after, due_by, due_at, detector_of, ValidDetector}
 use Rattle.detection.specs.DetectionFollows.{detector-follows}
 
 module _ (s : Settings) where
@@ -35,7 +35,8 @@ module _ (s : Settings) where
         dip-valid = step Dip d.dip v.dip-valid;
         swell-valid = step Swell d.swell v.swell-valid;
         interruption-valid = step Interruption d.interruption v.interruption-valid;
-        phase-valid = phase-valid s d.count w ms x.value _ d.phase window v.phase-valid;
+        phase-valid =
+            phase-valid s d.count w ms x.value (stands_at (suc d.count) d.dip d.swell (step_of s Dip (suc d.count) x d.dip) (step_of s Swell (suc d.count) x d.swell)) d.phase window v.phase-valid;
       }
 
   pub due-most : (x : Marked) (d : Detector) (w ms : List ℕ) → length (due_at s x d w ms) ≤ 4

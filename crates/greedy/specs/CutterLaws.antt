@@ -86,8 +86,8 @@ module _ {X St : Type 0} {C : Cutter X St} {Below : St → Type 0} (cuts : Cuts 
             ∙ (λ i. joined 1 (due-is i) (fed_by machine (if e i then C.half st one else next) xs (room - length (due-is i))))
 
     -- samples after it that leave the half-cycle in progress
-    one_more : (ys : List X) (y : ℕ) → joined 1 [] (ends_in next ys y) ≡ ends_in st (x ∷ ys) y
-    one_more ys y =
+    one-more : (ys : List X) (y : ℕ) → joined 1 [] (ends_in next ys y) ≡ ends_in st (x ∷ ys) y
+    one-more ys y =
         let c : 1 + length ys ≡ length (x ∷ ys) = omega arith in
         λ i. record { after = cuts.part-adds st x ys i; taken = c i; records = []; why = y }
 
@@ -107,7 +107,7 @@ module _ {X St : Type 0} {C : Cutter X St} {Below : St → Type 0} (cuts : Cuts 
       by-why (suc n) (suc y) h =
           let e : suc n - 1 ≡ n = omega arith in
           let f : suc n ≡ suc (suc n) - 1 = omega arith in
-          (λ i. joined 1 [] (ends_in next (take (e i) xs) (suc y))) ∙ (one_more (take n xs) (suc y) ∙ (λ i. ends_in st (take (f i) (x ∷ xs)) (suc y)))
+          (λ i. joined 1 [] (ends_in next (take (e i) xs) (suc y))) ∙ (one-more (take n xs) (suc y) ∙ (λ i. ends_in st (take (f i) (x ∷ xs)) (suc y)))
 
       why-adds : (ys : List X) → why next ys room ≡ why st (x ∷ ys) room
       why-adds ys = λ i. why_not_by (cuts.passes-adds st x ys i) (cuts.due-adds st x ys i) room
@@ -115,7 +115,7 @@ module _ {X St : Type 0} {C : Cutter X St} {Below : St → Type 0} (cuts : Cuts 
       by-cut : (n : ℕ) (b : Bool) → (b ≡ true → 0 < n) →
           joined 1 [] (by_cut next xs room (record { count = n; completes = b })) ≡ by_cut st (x ∷ xs) room (record { count = suc n; completes = b })
       by-cut n true some = (λ i. joined 1 [] (by_why next xs room n (why-adds (take n xs) i))) ∙ by-why n (why st (x ∷ take n xs) room) (some refl)
-      by-cut n false some = one_more xs 0
+      by-cut n false some = one-more xs 0
 
   feed-cut : (b : List X) (st : St) (room : ℕ) → Below st → fed_by machine st b room ≡ by_cut st b room (C.cut st b)
   unfolding fed_by

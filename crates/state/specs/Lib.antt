@@ -5,4 +5,3 @@ pub mod StepFollows
 pub mod StepValid
 pub mod Calls
 pub mod CallsLaws
-pub mod Starts

@@ -11,7 +11,7 @@ overflow_sub-after c =
 
 pub overflow_add-after : goal.overflow_add-after
 overflow_add-after c =
-    let g = c.requires in omega (arith, g.3.value_le, sum-most g.0 g.1 g.3)
+    let g = c.requires in omega (arith, g.3.value-le, sum-most g.0 g.1 g.3)
 
 pub overflow_sub-marked : goal.overflow_sub-marked
 overflow_sub-marked c =

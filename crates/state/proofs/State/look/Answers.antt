@@ -4,27 +4,22 @@ use Prim.Native.Nat.{ℕ, ◌-◌, min}
 use lib.ListN.{take, get_or}
 use Rattle.numbers.specs.Notation.{◌<ᵇ◌, if◌then◌else◌}
 use Rattle.reading.specs.Changes.{sum}
-use Rattle.state.proofs.State.look.Goals.{After-phase_number}
+use Rattle.state.specs.State.{readings_of}
 use Rattle.state.proofs.State.look.Goals as goal
 
 pub returns : goal.returns
 unfolding readings_of
 returns c =
-    let at-phase-number = (goal.at.returns c).After-phase_number in
-    let at-full-sum = at-phase-number.before in
-    let at-newest = at-full-sum.before.before in
-    let at-window-length = at-newest.before.before.before.before.before in
-    let start = at-window-length.before.before.before.before in
-    let st = start.args.self in
+    let st = c.args.self in
     let d = st.detector in
-    let length-is = at-window-length.window_length.ensures.0 in
-    let value-is = at-newest.newest.ensures ∙ ap (λ (n : ℕ). get_or st.window (min d.count n - 1) 0) length-is in
-    let sum_is_lem = at-full-sum.full_sum.ensures ∙ ap (λ (n : ℕ). if d.count <ᵇ n then 0 else sum (take n st.window)) length-is in
+    let length-is = c.window_length-window_length.ensures.0 in
+    let value-is = c.newest.ensures ∙ ap (λ (n : ℕ). get_or st.window (min d.count n - 1) 0) length-is in
+    let sum-is = c.full_sum.ensures ∙ ap (λ (n : ℕ). if d.count <ᵇ n then 0 else sum (take n st.window)) length-is in
     λ i. record {
       count = d.count;
       value = value-is i;
-      sum = sum_is_lem i;
-      phase = at-phase-number.phase_number.ensures i;
+      sum = sum-is i;
+      phase = c.phase_number.ensures i;
       dip = 0 <ᵇ d.dip.start;
       swell = 0 <ᵇ d.swell.start;
       interruption = 0 <ᵇ d.interruption.start;
