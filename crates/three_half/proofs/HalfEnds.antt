@@ -52,7 +52,7 @@ module _ {s : Settings} {t : Scaled} {g : Gatherers} {j : Joint} {a : JointSums}
     samples-some = omega (arith, pre.valid.settings-valid.samples-valid.0);
     samples-most = pre.valid.settings-valid.samples-valid.1;
     last-le = λ c. (pre.valid.gatherer-valid c).1.1.0;
-    half_le = λ c. omega (arith, sum-at pre c, ap (λ (h : Gatherers). (gatherer_at c h).last) are, ap (λ (h : Gatherer). h.last) (half_at c g p));
+    half-le = λ c. omega (arith, sum-at pre c, ap (λ (h : Gatherers). (gatherer_at c h).last) are, ap (λ (h : Gatherer). h.last) (half_at c g p));
     window-long = λ c. (pre.valid.window-valid c).size;
   }
 

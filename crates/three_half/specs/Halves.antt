@@ -91,5 +91,5 @@ pub record ValuesReady (s : Settings) (g h : Gatherers) (ws : Three (List ℕ)) 
   pub samples-some : 0 < s.samples
   pub samples-most : s.samples ≤ 256
   pub last-le : (c : Channel) → (gatherer_at c g).last ≤ s.samples * 2 ^ 30
-  pub half_le : (c : Channel) → (gatherer_at c h).last ≤ s.samples * 2 ^ 30
+  pub half-le : (c : Channel) → (gatherer_at c h).last ≤ s.samples * 2 ^ 30
   pub window-long : (c : Channel) → length (at c ws) ≡ 120

@@ -1,6 +1,5 @@
 -- Each channel's part joins its gatherer.
 use Rattle.three_reading.specs.Three.Channel.{on_a, on_b, on_c}
-use Rattle.three_half.proofs.halves_of.Goals.{After-with_half-3}
 use Rattle.three_half.proofs.halves_of.Goals as goal
 
 pub with_half-requires : goal.with_half-requires
@@ -12,7 +11,5 @@ with_half-requires-2 c = c.requires on_b
 pub with_half-requires-3 : goal.with_half-requires-3
 with_half-requires-3 c = c.requires on_c
 
---! path c.before.before.with_half.ensures at After-with_half3
---! path c.before.with_half2.ensures at After-with_half3
 pub returns : goal.returns
-returns c = λ i. record { a = c.with_half.ensures i; b = c.with_half2.ensures i; (goal.at.returns c).After-with_half-3 = c.with_half-3.ensures i }
+returns c = λ i. record { a = c.with_half.ensures i; b = c.with_half-2.ensures i; c = c.with_half-3.ensures i }
