@@ -13,7 +13,6 @@ use Rattle.three_feed.proofs.cut_of.Goals as goal
 pub slice_bounds-cut-end : goal.slice_bounds-cut-end
 slice_bounds-cut-end c = simp length-take (omega arith)
 
---! path c.before.before.args at After-cut
 pub returns : goal.returns
 returns c =
     let a = c.args in
