@@ -1,6 +1,6 @@
 use mathlib.Core.Path.{◌∙◌, ap}
 use mathlib.Core.Bool.{◌&&◌}
-use Prim.Native.Nat.{◌+◌, ◌-◌}
+use Prim.Native.Nat.{◌+◌}
 use native.Mathlib.Omega.{arith}
 use Rattle.octets.specs.BytesLaws.{bytes-by}
 use Rattle.records.specs.ListLaws.{record-length, magnitudes-fit}
