@@ -91,8 +91,8 @@ module _ (s : Settings) (z day : ℕ) (b : List ℕ) where
     tallied-all whole =
         let second_is = counted-all _ b i second whole so_far.seconds in
         let first-is = counted-all _ b i first whole so_far.firsts in
-        let Known-is = known-all b i known whole so_far.all_known in
-        λ j. record { second = second_is j; first = first-is j; known = Known-is j }
+        let known_is = known-all b i known whole so_far.all_known in
+        λ j. record { second = second_is j; first = first-is j; known = known_is j }
 
 -- the day of a value, without the sum of z and the value
 pub day-split : (z v l : ℕ) → 0 < l → v / l + (z + v % l) / l ≡ (z + v) / l
