@@ -26,7 +26,7 @@ use Rattle.three_state.specs.declared.ThreeState.{ThreeState}
 use Rattle.three_state.specs.ThreeState.{ValidThree}
 use Rattle.three_state.specs.ThreeStep.{with_joints, with_gatherers, parts_of, with_halves, values_with, three_passes, three_half, three_cutter, three_machine}
 use Rattle.three_state.specs.ThreeFed.{three_fed_with}
-use Rattle.three_state.specs.ThreeFedLaws.{three_fed_with-within}
+use Rattle.three_state.proofs.ThreeFedLaws.{three_fed_with-within}
 use Rattle.three_logger.specs.declared.ThreeLogger.{ThreeLogger}
 use Rattle.three_logger.specs.declared.FeedAnswer.{FeedAnswer}
 use Rattle.three_logger.specs.declared.FeedAnswer.TheVariants.{Taken, Refused}

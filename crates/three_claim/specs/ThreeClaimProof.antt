@@ -29,7 +29,7 @@ use Rattle.three_laws.specs.TriplesLaws.{TripleSamples, triple_samples-append, t
 use Rattle.three_laws.specs.ThreePast.{three_past, three_past-grows}
 use Rattle.three_state.specs.declared.ThreeState.{ThreeState}
 use Rattle.three_state.specs.ThreeState.{three_fresh, three_state_of}
-use Rattle.three_state.specs.ThreeStepFollows.{three-steps-of, three-fresh-is, three-readings-of}
+use Rattle.three_state.proofs.ThreeStepFollows.{three-steps-of, three-fresh-is, three-readings-of}
 use Rattle.three_state.specs.ThreeFed.{three_fed_with}
 use Rattle.three_logger.specs.Logger.{in_samples, three_fed_by, three_fed}
 use Rattle.three_logger.specs.Calls.{three_started_from, three_calls}

@@ -30,7 +30,7 @@ use Rattle.three_state.specs.declared.Parts.{Parts}
 use Rattle.three_state.specs.declared.ThreeState.{ThreeState}
 use Rattle.three_state.specs.ThreeState.{gatherer_at, windows_in, three_with, ValidThree}
 use Rattle.three_state.specs.ThreeStep.{parts_of, part_at, with_halves, three_passes, three_half_due, three_half, three_part, three_why_not, three_machine}
-use Rattle.three_state.specs.ThreeStepLaws.{three_cuts}
+use Rattle.three_state.proofs.ThreeStepLaws.{three_cuts}
 use Rattle.three_state.specs.ThreeStepValid.{three_part-valid, three_half-valid}
 use Rattle.three_state.specs.ThreeFed.{three_fed_with}
 use Rattle.lanes.specs.Lanes.{SquaresFit, PartsAre}

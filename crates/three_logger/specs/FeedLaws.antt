@@ -9,7 +9,7 @@ use Rattle.three_reading.specs.Three.{triples_of}
 use Rattle.three_laws.specs.TriplesLaws.{length-triples}
 use Rattle.three_state.specs.declared.ThreeState.{ThreeState}
 use Rattle.three_state.specs.ThreeFed.{three_fed_with}
-use Rattle.three_state.specs.ThreeFedLaws.{three_fed_with-within}
+use Rattle.three_state.proofs.ThreeFedLaws.{three_fed_with-within}
 use Rattle.three_logger.specs.Logger.{three_fed_to, in_samples, three_fed_by, three_fed}
 
 module _ (st : ThreeState) (block : List ℤ) (lent : List ℕ) where

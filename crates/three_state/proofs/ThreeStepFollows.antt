@@ -12,7 +12,7 @@ use Rattle.settings.specs.Settings.{window_length_of}
 use Rattle.settings.specs.SettingsLaws.{window_length_of-some, window_length_of-most}
 use Rattle.reading.specs.declared.Readings.{Readings}
 use Rattle.reading.specs.declared.Kind.TheVariants.{Dip, Swell, Interruption}
-use Rattle.reading.specs.Values.{value, value_count, history, values}
+use Rattle.reading.specs.Values.{value_count, history, values}
 use Rattle.reading.specs.Clipping.{value_clipped, marks, marks_of, record_of}
 use Rattle.reading.specs.Changes.{Signal}
 use Rattle.reading.specs.Changes.Signal.{filling, unsettled, steady, changing}

@@ -1,0 +1,3 @@
+pub mod ThreeStepLaws
+pub mod ThreeStepFollows
+pub mod ThreeFedLaws
