@@ -1,6 +1,6 @@
 -- An item of standard input, and bytes in base sixteen.
-use Rattle.std.specs.Prelude.{◌≡◌, Bool, List, [], ◌∷◌, ◌++◌, ℕ, ◌+◌, ◌-◌, ◌/◌, ◌%◌, ◌≤◌, length, take, drop, get_or}
-use Rattle.numbers.specs.Notation.{◌<ᵇ◌, if◌then◌else◌}
+use Rattle.std.specs.Prelude.{◌≡◌, Bool, List, [], ◌∷◌, ◌++◌, ℕ, ◌+◌, ◌-◌, ◌/◌, ◌%◌, ◌≤◌, length, take, drop, get_or, if◌then◌else◌}
+use Rattle.numbers.specs.Notation.{◌<ᵇ◌}
 use Rattle.octets.specs.Bytes.{number_of}
 use Rattle.call_items.specs.declared.Item.{Item}
 

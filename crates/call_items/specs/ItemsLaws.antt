@@ -1,9 +1,8 @@
 -- The ways out of `next_item`; and lists that are written from their start: one byte more that is the same as the others, and one more in base sixteen.
-use Rattle.std.specs.Prelude.{◌≡◌, refl, Bool, false, List, [], ◌∷◌, ◌++◌, ℕ, suc, ◌+◌, ◌-◌, ◌*◌, ◌/◌, ◌%◌, ◌≤◌, ◌<◌, length, take, drop, get_or, set, replicate}
+use Rattle.std.specs.Prelude.{◌≡◌, refl, Bool, false, List, [], ◌∷◌, ◌++◌, ℕ, suc, ◌+◌, ◌-◌, ◌*◌, ◌/◌, ◌%◌, ◌≤◌, ◌<◌, length, take, drop, get_or, set, replicate, if◌then◌else◌}
 use Rattle.std.proofs.Common.{sym, ◌∙◌, ap, ap₂, append-nil, append_assoc, arith, add-one, length-append, drop_of_length-le, drop-cons, take-suc, take_all, length-take-le, lt-ltb, le-ltb}
 use Rattle.std.proofs.lemmas.List.{length-replicate, replicate-append-replicate, set_at}
 use Rattle.std.proofs.Math.Seq.{append_snoc}
-use Rattle.numbers.specs.Notation.{if◌then◌else◌}
 use Rattle.call_items.specs.declared.Item.{Item}
 use Rattle.call_items.specs.Items.{no_item, item_of, NextItem, digit_of, hex_of}
 

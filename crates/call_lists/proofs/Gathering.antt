@@ -1,4 +1,5 @@
 -- A gatherer stays valid, sample by sample and by the parts that the cut gives.
+use Rattle.std.specs.Prelude.{if◌then◌else◌}
 use mathlib.Core.Path.{◌≡◌, refl, sym, ◌∙◌, ap, subst}
 use mathlib.Core.Bool.{Bool, true, false}
 use mathlib.Core.List.{List, [], ◌∷◌}
@@ -10,7 +11,6 @@ use lib.Signed.{mag}
 use mir.Syntax.{w16}
 use mir.Val.{to_z, of_z}
 use mir.ValLaws.{to_z-of_z}
-use Rattle.numbers.specs.Notation.{if◌then◌else◌}
 use Rattle.reading.specs.Values.{Sample, squares}
 use Rattle.reading_laws.specs.RecordingsLaws.{squares-le}
 use Rattle.rms.specs.declared.Part.{Part}

@@ -1,8 +1,8 @@
 -- The code's step, from its parts: what joins the window is what the phase's step asks for, and the parts together are `tried_by`.
-use Rattle.std.specs.Prelude.{◌≡◌, Bool, true, false, List, [], ◌∷◌, ℕ, suc, ◌+◌, ◌-◌, ◌≤◌, ◌<◌, take, drop, get_or}
+use Rattle.std.specs.Prelude.{◌≡◌, Bool, true, false, List, [], ◌∷◌, ℕ, suc, ◌+◌, ◌-◌, ◌≤◌, ◌<◌, take, drop, get_or, if◌then◌else◌}
 use Rattle.std.proofs.Common.{sym, ◌∙◌, arith}
 use Rattle.std.proofs.Math.Path.{ap}
-use Rattle.numbers.specs.Notation.{◌<ᵇ◌, if◌then◌else◌, flag}
+use Rattle.numbers.specs.Notation.{◌<ᵇ◌, flag}
 use Rattle.settings.specs.declared.Settings.{Settings}
 use Rattle.settings.specs.declared.Scaled.{Scaled}
 use Rattle.settings.specs.Settings.{window_length_of, scaled_of, ValidSettings}

@@ -1,8 +1,8 @@
 // One value: what is kept of the values beside the window, after it, and the records due at it.
 #![tactic(auto)]
 
-ghost use Rattle.std.specs.Prelude.{◌≡◌, ◌≤◌, ◌<◌, length};
-ghost use Rattle.numbers.specs.Notation.{◌<ᵇ◌, if◌then◌else◌};
+ghost use Rattle.std.specs.Prelude.{◌≡◌, ◌≤◌, ◌<◌, length, if◌then◌else◌};
+ghost use Rattle.numbers.specs.Notation.{◌<ᵇ◌};
 ghost use Rattle.threshold.specs.Standing.{begins_at, ends_at, stepped};
 ghost use Rattle.window.specs.Window.{leaving as leaving_of, staying};
 ghost use Rattle.reading.specs.Feed.{last_value};

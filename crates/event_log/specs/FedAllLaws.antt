@@ -1,7 +1,7 @@
 -- A feed of the logger is a turn of `fed_all_by`; and chunks come to an end, for what is left to V's end falls with each sample that is taken.
-use Rattle.std.specs.Prelude.{◌≡◌, refl, Bool, true, false, ◌&&◌, List, [], ◌∷◌, ℕ, ◌+◌, ◌-◌, ◌<◌, length, take, drop, ℤ}
+use Rattle.std.specs.Prelude.{◌≡◌, refl, Bool, true, false, ◌&&◌, List, [], ◌∷◌, ℕ, ◌+◌, ◌-◌, ◌<◌, length, take, drop, ℤ, if◌then◌else◌}
 use Rattle.std.proofs.Common.{◌∙◌, ap, arith}
-use Rattle.numbers.specs.Notation.{◌<ᵇ◌, ◌≡ᵇ◌, if◌then◌else◌}
+use Rattle.numbers.specs.Notation.{◌<ᵇ◌, ◌≡ᵇ◌}
 use Rattle.reading.specs.declared.Told.{Told}
 use Rattle.reading.specs.Feed.{last_value}
 use Rattle.samples.specs.Samples.{samples_of}

@@ -1,6 +1,5 @@
 -- Samples fed with room for all their records, over any machine.
-use Rattle.std.specs.Prelude.{List, [], ◌∷◌, ℕ}
-use Rattle.numbers.specs.Notation.{if◌then◌else◌}
+use Rattle.std.specs.Prelude.{List, [], ◌∷◌, ℕ, if◌then◌else◌}
 use Rattle.greedy.specs.Greedy.{Machine}
 
 -- the machine after samples, and why it took no more

@@ -1,13 +1,13 @@
 -- The laws of `fed_all_by`: a feed with room for a few records leaves the rest of it to take, and with room for four a turn is progress; and chunks come to an end,
 -- where what is left to V's end falls with each sample that is taken.
-use Rattle.std.specs.Prelude.{◌≡◌, ◌≢◌, Bool, ◌&&◌, ℕ, suc, ◌+◌, ◌-◌, ◌*◌, ◌≤◌, ◌<◌, drop, ℤ}
+use Rattle.std.specs.Prelude.{◌≡◌, ◌≢◌, Bool, ◌&&◌, ℕ, suc, ◌+◌, ◌-◌, ◌*◌, ◌≤◌, ◌<◌, drop, ℤ, if◌then◌else◌}
 use Rattle.std.proofs.Math.Path.{refl, subst⁻¹}
 use Rattle.std.proofs.Common.{sym, ◌∙◌, ap, length-drop, drop-drop, ltb-false, eqb-true, ne_eqb}
 use Rattle.std.proofs.Math.Bool.{true, false}
 use mathlib.Core.List.{List, [], ◌∷◌}
 use native.Mathlib.Omega.{arith}
 use Rattle.std.proofs.Math.ListN.{length}
-use Rattle.numbers.specs.Notation.{◌<ᵇ◌, ◌≡ᵇ◌, if◌then◌else◌}
+use Rattle.numbers.specs.Notation.{◌<ᵇ◌, ◌≡ᵇ◌}
 use Rattle.reading.specs.declared.Told.{Told}
 use Rattle.reading.specs.Feed.{last_value}
 use Rattle.reading.specs.Calls.{Outcome}

@@ -1,6 +1,6 @@
 -- A state that takes samples by half-cycles, and the machine that it is, sample by sample.
-use Rattle.std.specs.Prelude.{Bool, false, List, [], ◌∷◌, ℕ, length}
-use Rattle.numbers.specs.Notation.{◌<ᵇ◌, if◌then◌else◌}
+use Rattle.std.specs.Prelude.{Bool, false, List, [], ◌∷◌, ℕ, length, if◌then◌else◌}
+use Rattle.numbers.specs.Notation.{◌<ᵇ◌}
 use Rattle.reading.specs.declared.Record.{Record}
 use Rattle.rms.specs.declared.Share.{Share}
 use Rattle.greedy.specs.Greedy.{Machine}

@@ -1,10 +1,10 @@
 -- A feed in progress: what is fed so far of a block, and what is left of it and of the lent buffer. Half-cycles and chunks join it alike, each with its records
 -- behind those written before.
-use Rattle.std.specs.Prelude.{◌≡◌, refl, Bool, false, List, [], ◌++◌, ℕ, ◌+◌, ◌-◌, ◌*◌, ◌≤◌, ◌<◌, length, take, drop}
+use Rattle.std.specs.Prelude.{◌≡◌, refl, Bool, false, List, [], ◌++◌, ℕ, ◌+◌, ◌-◌, ◌*◌, ◌≤◌, ◌<◌, length, take, drop, if◌then◌else◌}
 use Rattle.std.proofs.Common.{sym, ◌∙◌, ap, subst, append-nil, arith, length-append, length-drop, take-append-drop, drop-drop, take_all, length-take-le, ne_eqb}
 use Rattle.std.proofs.Math.Seq.{drop-length}
 use borrow.Rule.Slice.PartMut.{put_mid, Post-is}
-use Rattle.numbers.specs.Notation.{◌≡ᵇ◌, if◌then◌else◌}
+use Rattle.numbers.specs.Notation.{◌≡ᵇ◌}
 use Rattle.reading.specs.declared.Record.{Record}
 use Rattle.reading.specs.declared.Told.{Told}
 use Rattle.reading.specs.Records.{record_bytes}

@@ -1,9 +1,9 @@
 -- Demand 3, the statement. The logger is fed in blocks, tried, saved, handed over and restored; the engineer reads the kept recording as a whole. Over every
 -- list of calls from a fresh logger the two have the same answers, lent bytes included, and after it the same records.
-use Rattle.std.specs.Prelude.{◌≡◌, ◌≢◌, Bool, true, false, List, [], ◌∷◌, ◌++◌, ℕ, ◌*◌, take, get_or}
+use Rattle.std.specs.Prelude.{◌≡◌, ◌≢◌, Bool, true, false, List, [], ◌∷◌, ◌++◌, ℕ, ◌*◌, take, get_or, if◌then◌else◌}
 use Rattle.octets.specs.Bytes.{Bytes}
 use Rattle.settings.specs.declared.Settings.{Settings}
-use Rattle.numbers.specs.Notation.{◌≡ᵇ◌, if◌then◌else◌}
+use Rattle.numbers.specs.Notation.{◌≡ᵇ◌}
 use Rattle.numbers.specs.Answers.{Answered, refusal_in}
 use Rattle.numbers.specs.Answers.Answered.{accepted, refused}
 use Rattle.settings.specs.Settings.{settings_of, start_refusal}

@@ -1,10 +1,9 @@
 -- Demand 2 of the logger's calls, proved: the image's round trips, the greedy feed, that one sample has at most four records due, and the trial.
-use Rattle.std.specs.Prelude.{◌≡◌, refl, Bool, true, List, [], ◌∷◌, ℕ, ◌*◌, ◌≤◌, ◌<◌, take, ℤ}
+use Rattle.std.specs.Prelude.{◌≡◌, refl, Bool, true, List, [], ◌∷◌, ℕ, ◌*◌, ◌≤◌, ◌<◌, take, ℤ, if◌then◌else◌}
 use Rattle.std.proofs.Math.Path.{sym, ap, subst, subst⁻¹}
 use Rattle.std.proofs.Common.{◌∙◌, arith, le-ltb, le-leb}
 use Rattle.std.proofs.Math.ListN.{length}
 use Rattle.octets.specs.Bytes.{Bytes}
-use Rattle.numbers.specs.Notation.{if◌then◌else◌}
 use Rattle.numbers.specs.Answers.Answered.{accepted}
 use Rattle.reading.specs.Records.{record_bytes}
 use Rattle.reading.specs.Feed.{last_value}

@@ -1,4 +1,5 @@
 -- The ways of advance and of try: each refusal leaves every buffer as it was; else they are as feed, the reply and save leave them. And the ways of the count.
+use Rattle.std.specs.Prelude.{if◌then◌else◌}
 use mathlib.Core.Path.{◌≡◌, sym, ◌∙◌, ap}
 use mathlib.Core.Bool.{Bool, true, false, not}
 use mathlib.Core.List.{List}
@@ -6,7 +7,7 @@ use Prim.Native.Nat.{ℕ, zero, suc, ◌%◌, ◌≤◌, ◌<◌}
 use native.Mathlib.Omega.{arith}
 use lib.ListN.{length}
 use borrow.Author.Tests.{eq-eqb, ne_eqb, lt-leb, le-leb, lt-ltb, le-ltb}
-use Rattle.numbers.specs.Notation.{◌≡ᵇ◌, refuse◌unless◌then◌, if◌then◌else◌}
+use Rattle.numbers.specs.Notation.{◌≡ᵇ◌, refuse◌unless◌then◌}
 use Rattle.numbers.specs.Answers.{Answered}
 use Rattle.reading.specs.declared.Told.{Told}
 use Rattle.reading.specs.Restore.{restore_refusal}

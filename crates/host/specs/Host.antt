@@ -1,7 +1,7 @@
 -- What the calls of a host answer, and what they leave in each lent buffer.
-use Rattle.std.specs.Prelude.{Bool, not, List, [], ◌∷◌, ℕ, zero, suc, ◌%◌, length}
+use Rattle.std.specs.Prelude.{Bool, not, List, [], ◌∷◌, ℕ, zero, suc, ◌%◌, length, if◌then◌else◌}
 use Rattle.octets.specs.Bytes.{row}
-use Rattle.numbers.specs.Notation.{◌≤ᵇ◌, ◌≡ᵇ◌, if◌then◌else◌, flag, refuse◌unless◌then◌}
+use Rattle.numbers.specs.Notation.{◌≤ᵇ◌, ◌≡ᵇ◌, flag, refuse◌unless◌then◌}
 use Rattle.numbers.specs.Answers.{Answered}
 use Rattle.numbers.specs.Answers.Answered.{accepted, refused}
 use Rattle.reading.specs.declared.Told.{Told}

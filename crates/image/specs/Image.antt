@@ -1,7 +1,6 @@
 -- What save writes of a state, what restore reads from bytes, and the answers of both.
-use Rattle.std.specs.Prelude.{List, ◌∷◌, ◌++◌, ℕ, zero, suc, ◌+◌, take, drop, get_or}
+use Rattle.std.specs.Prelude.{List, ◌∷◌, ◌++◌, ℕ, zero, suc, ◌+◌, take, drop, get_or, if◌then◌else◌}
 use Rattle.octets.specs.Bytes.{row}
-use Rattle.numbers.specs.Notation.{if◌then◌else◌}
 use Rattle.numbers.specs.Answers.{Answered}
 use Rattle.numbers.specs.Answers.Answered.{accepted, refused}
 use Rattle.settings.specs.Settings.{settings_bytes, settings_of}

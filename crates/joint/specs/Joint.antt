@@ -1,7 +1,7 @@
 -- One value of each of three channels: the step of the joint events, of each channel's own signal, and of each channel's phase under the joint signal. And what a
 -- history of three channels and its marks leave.
-use Rattle.std.specs.Prelude.{◌≡◌, Bool, true, false, ◌&&◌, ◌||◌, List, map, ℕ, suc, max, ◌≤◌, ◌<◌, length}
-use Rattle.numbers.specs.Notation.{if◌then◌else◌, flag}
+use Rattle.std.specs.Prelude.{◌≡◌, Bool, true, false, ◌&&◌, ◌||◌, List, map, ℕ, suc, max, ◌≤◌, ◌<◌, length, if◌then◌else◌}
+use Rattle.numbers.specs.Notation.{flag}
 use Rattle.settings.specs.declared.Settings.{Settings}
 use Rattle.settings.specs.declared.Scaled.{Scaled}
 use Rattle.settings.specs.declared.Threshold.{Threshold}

@@ -1,7 +1,7 @@
 -- The code's step of three channels, from its parts: what is ready for all three is ready for each, and the parts together are `joint_tried_by`.
-use Rattle.std.specs.Prelude.{◌≡◌, refl, Bool, List, ℕ, suc, ◌+◌, ◌-◌, min, take, drop}
+use Rattle.std.specs.Prelude.{◌≡◌, refl, Bool, List, ℕ, suc, ◌+◌, ◌-◌, min, take, drop, if◌then◌else◌}
 use Rattle.std.proofs.Common.{◌∙◌, ap, arith}
-use Rattle.numbers.specs.Notation.{◌<ᵇ◌, if◌then◌else◌}
+use Rattle.numbers.specs.Notation.{◌<ᵇ◌}
 use Rattle.settings.specs.declared.Settings.{Settings}
 use Rattle.settings.specs.declared.Scaled.{Scaled}
 use Rattle.settings.specs.Settings.{window_length_of}

@@ -11,11 +11,6 @@ a <ᵇ b = ltb a b
 abbrev pub ◌≡ᵇ◌ : ℕ → ℕ → Bool
 a ≡ᵇ b = eqb a b
 
-infix 10 if◌then◌else◌
-abbrev pub if◌then◌else◌ {ℓ} : {A : Type ℓ} → Bool → A → A → A
-if true then a else b = a
-if false then a else b = b
-
 -- 1 for yes, 0 for no
 abbrev pub flag : Bool → ℕ
 flag true = 1

@@ -1,7 +1,7 @@
 -- 01, "Rapid voltage changes", with 02's recovery from a long dip.
-use Rattle.std.specs.Prelude.{Bool, ◌&&◌, ◌||◌, List, [], ◌∷◌, ℕ, suc, ◌+◌, ◌-◌, ◌*◌, max, length, take}
+use Rattle.std.specs.Prelude.{Bool, ◌&&◌, ◌||◌, List, [], ◌∷◌, ℕ, suc, ◌+◌, ◌-◌, ◌*◌, max, length, take, if◌then◌else◌}
 use Rattle.settings.specs.declared.Settings.{Settings}
-use Rattle.numbers.specs.Notation.{◌≤ᵇ◌, ◌<ᵇ◌, ◌≡ᵇ◌, if◌then◌else◌, all}
+use Rattle.numbers.specs.Notation.{◌≤ᵇ◌, ◌<ᵇ◌, ◌≡ᵇ◌, all}
 use Rattle.settings.specs.Settings.{window_length_of}
 use Rattle.reading.specs.declared.Kind.TheVariants.{Dip, Swell}
 use Rattle.reading.specs.declared.Event.{Event}

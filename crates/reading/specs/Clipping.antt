@@ -1,8 +1,8 @@
 -- 02, N1: which samples, half-cycles and values are clipped, and the mark of a record. Nothing that decides values, events or changes knows of marks.
-use Rattle.std.specs.Prelude.{Bool, false, ◌||◌, List, [], ◌∷◌, ℕ, zero, suc, ◌+◌, ◌-◌, length, ℤ, pos, negsuc}
+use Rattle.std.specs.Prelude.{Bool, false, ◌||◌, List, [], ◌∷◌, ℕ, zero, suc, ◌+◌, ◌-◌, length, ℤ, pos, negsuc, if◌then◌else◌}
 use Rattle.settings.specs.declared.Settings.{Settings}
 use Rattle.settings.specs.Settings.{window_length_of}
-use Rattle.numbers.specs.Notation.{◌≡ᵇ◌, if◌then◌else◌, flag}
+use Rattle.numbers.specs.Notation.{◌≡ᵇ◌, flag}
 use Rattle.reading.specs.declared.Event.{Event}
 use Rattle.reading.specs.declared.Record.{Record}
 use Rattle.reading.specs.Values.{half, value_count, since, up_to}

@@ -1,8 +1,8 @@
 -- 01, "The engineer" of demand 3, with 02's trial: what is kept of a list of calls, and each call's answer, read from the recording and the settings only.
-use Rattle.std.specs.Prelude.{◌≢◌, Bool, List, [], ◌∷◌, ◌++◌, ℕ, suc, ◌/◌, ◌<◌, length, take, drop, get_or, ℤ}
+use Rattle.std.specs.Prelude.{◌≢◌, Bool, List, [], ◌∷◌, ◌++◌, ℕ, suc, ◌/◌, ◌<◌, length, take, drop, get_or, ℤ, if◌then◌else◌}
 use Rattle.octets.specs.Bytes.{Bytes}
 use Rattle.settings.specs.declared.Settings.{Settings}
-use Rattle.numbers.specs.Notation.{◌<ᵇ◌, if◌then◌else◌}
+use Rattle.numbers.specs.Notation.{◌<ᵇ◌}
 use Rattle.settings.specs.Settings.{window_length_of}
 use Rattle.reading.specs.declared.Kind.TheVariants.{Dip, Swell, Interruption}
 use Rattle.reading.specs.declared.Told.{Told}

@@ -1,7 +1,7 @@
 -- 01, "Feed", of a recording: how many samples of a block are taken, which records are written, and why no more.
-use Rattle.std.specs.Prelude.{Bool, true, false, ◌&&◌, List, [], ◌++◌, ℕ, zero, suc, ◌+◌, ◌-◌, length, take, ℤ}
+use Rattle.std.specs.Prelude.{Bool, true, false, ◌&&◌, List, [], ◌++◌, ℕ, zero, suc, ◌+◌, ◌-◌, length, take, ℤ, if◌then◌else◌}
 use Rattle.settings.specs.declared.Settings.{Settings}
-use Rattle.numbers.specs.Notation.{◌≤ᵇ◌, ◌≡ᵇ◌, if◌then◌else◌}
+use Rattle.numbers.specs.Notation.{◌≤ᵇ◌, ◌≡ᵇ◌}
 use Rattle.reading.specs.declared.Record.{Record}
 use Rattle.reading.specs.Values.{value_count}
 use Rattle.reading.specs.Records.{records_at}

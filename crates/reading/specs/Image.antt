@@ -1,8 +1,8 @@
 -- 01, "The image" of a recording, with 02's marks and its recovery from a long dip; of any edition, by the width c of its counts (02, N7).
-use Rattle.std.specs.Prelude.{Bool, false, List, [], ◌∷◌, ◌++◌, reverse, ℕ, zero, suc, ◌-◌, ◌%◌, length, take, replicate, ℤ}
+use Rattle.std.specs.Prelude.{Bool, false, List, [], ◌∷◌, ◌++◌, reverse, ℕ, zero, suc, ◌-◌, ◌%◌, length, take, replicate, ℤ, if◌then◌else◌}
 use Rattle.octets.specs.Bytes.{row, total}
 use Rattle.settings.specs.declared.Settings.{Settings}
-use Rattle.numbers.specs.Notation.{◌<ᵇ◌, ◌≡ᵇ◌, if◌then◌else◌, flag}
+use Rattle.numbers.specs.Notation.{◌<ᵇ◌, ◌≡ᵇ◌, flag}
 use Rattle.settings.specs.Settings.{window_length_of, settings_length, settings_bytes}
 use Rattle.reading.specs.declared.Kind.{Kind}
 use Rattle.reading.specs.declared.Kind.TheVariants.{Dip, Swell, Interruption}

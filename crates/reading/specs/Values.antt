@@ -1,7 +1,7 @@
 -- 01, "From samples to values". A recording is a list of samples, the first one first; a history is a list of values, the newest first.
-use Rattle.std.specs.Prelude.{true, false, List, [], ◌∷◌, ℕ, zero, suc, ◌+◌, ◌-◌, ◌*◌, ◌/◌, ◌^◌, ◌<◌, length, take, drop, ℤ, pos, negsuc, nat_abs}
+use Rattle.std.specs.Prelude.{true, false, List, [], ◌∷◌, ℕ, zero, suc, ◌+◌, ◌-◌, ◌*◌, ◌/◌, ◌^◌, ◌<◌, length, take, drop, ℤ, pos, negsuc, nat_abs, if◌then◌else◌}
 use Rattle.settings.specs.declared.Settings.{Settings}
-use Rattle.numbers.specs.Notation.{◌≤ᵇ◌, ◌≡ᵇ◌, if◌then◌else◌}
+use Rattle.numbers.specs.Notation.{◌≤ᵇ◌, ◌≡ᵇ◌}
 
 -- a sample is a signed 16-bit count: −32768 (`negsuc 32767`) to 32767
 abbrev pub Sample : ℤ → Type 0

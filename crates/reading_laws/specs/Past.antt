@@ -1,8 +1,8 @@
 -- A past of samples of any kind, by its count of values and the records due at them, and 01's rule of feed over it. For the recording of one channel this is
 -- the rule in `reading/specs/Feed`, word for word.
-use Rattle.std.specs.Prelude.{◌≡◌, Bool, ◌&&◌, List, [], ◌++◌, ℕ, ◌+◌, ◌-◌, ◌≤◌, length, take, ℤ}
+use Rattle.std.specs.Prelude.{◌≡◌, Bool, ◌&&◌, List, [], ◌++◌, ℕ, ◌+◌, ◌-◌, ◌≤◌, length, take, ℤ, if◌then◌else◌}
 use Rattle.settings.specs.declared.Settings.{Settings}
-use Rattle.numbers.specs.Notation.{◌≤ᵇ◌, ◌≡ᵇ◌, if◌then◌else◌}
+use Rattle.numbers.specs.Notation.{◌≤ᵇ◌, ◌≡ᵇ◌}
 use Rattle.reading.specs.declared.Record.{Record}
 use Rattle.reading.specs.Values.{value_count}
 use Rattle.reading.specs.Feed.{last_value, due_after, greatest_to}

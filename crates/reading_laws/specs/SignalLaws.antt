@@ -1,5 +1,5 @@
 -- 01's sentence on the steady signal: each phase of the reading's signal says what its truth value has been, and so which case of the sentence holds.
-use Rattle.std.specs.Prelude.{◌≡◌, refl, ◌⊎◌, Bool, true, false, List, [], ◌∷◌, ℕ, suc, ◌+◌, ◌-◌, ◌≤◌, ◌<◌, length}
+use Rattle.std.specs.Prelude.{◌≡◌, refl, ◌⊎◌, Bool, true, false, List, [], ◌∷◌, ℕ, suc, ◌+◌, ◌-◌, ◌≤◌, ◌<◌, length, if◌then◌else◌}
 use Rattle.std.proofs.Common.{sym, ◌∙◌, ap, inl, inr, arith, le_antisymm, ltb-true, lt-ltb, le-ltb, le-leb}
 use Rattle.std.proofs.Math.Decide.{dec_le, dec_lt}
 use Rattle.std.proofs.Math.Seq.{drop-nil}
@@ -7,7 +7,7 @@ use Rattle.std.proofs.lemmas.Bool.{lt-leb}
 use Rattle.settings.specs.declared.Settings.{Settings}
 use Rattle.settings.specs.Settings.{window_length_of}
 use Rattle.settings.specs.SettingsLaws.{window_length_of-some}
-use Rattle.numbers.specs.Notation.{◌≤ᵇ◌, ◌<ᵇ◌, if◌then◌else◌}
+use Rattle.numbers.specs.Notation.{◌≤ᵇ◌, ◌<ᵇ◌}
 use Rattle.reading.specs.Values.{up_to}
 use Rattle.reading.specs.Changes.{calm, Signal, next, signal}
 use Rattle.reading.specs.Changes.Signal.{filling, unsettled, steady, changing}

@@ -1,7 +1,7 @@
 -- The gatherer's steps, where a half-cycle ends, and the gatherer that a recording leaves. 01: count and sum of the half in progress, sum of the last whole
 -- half. 02, N1: the marks of both.
-use Rattle.std.specs.Prelude.{◌≡◌, ℕ, ◌+◌, ◌-◌, ◌*◌, ◌%◌, ◌^◌, ◌≤◌, Bool, true, false, ◌||◌, List, [], ◌∷◌, length, ℤ}
-use Rattle.numbers.specs.Notation.{◌<ᵇ◌, if◌then◌else◌, flag}
+use Rattle.std.specs.Prelude.{◌≡◌, ℕ, ◌+◌, ◌-◌, ◌*◌, ◌%◌, ◌^◌, ◌≤◌, Bool, true, false, ◌||◌, List, [], ◌∷◌, length, ℤ, if◌then◌else◌}
+use Rattle.numbers.specs.Notation.{◌<ᵇ◌, flag}
 use Rattle.numbers.specs.Rules.{Holds}
 use Rattle.settings.specs.declared.Settings.{Settings}
 use Rattle.rms.specs.declared.Marked.{Marked}

@@ -1,9 +1,9 @@
 -- The laws of the gatherer's steps: a part adds up with the sample before it, what holds of a gatherer is kept, and the value that comes out is small.
-use Rattle.std.specs.Prelude.{◌≡◌, ℕ, ◌+◌, ◌*◌, ◌^◌, ◌<◌, ◌≤◌, Bool, true, false, ◌||◌, List, [], ◌∷◌, length, ℤ, refl}
+use Rattle.std.specs.Prelude.{◌≡◌, ℕ, ◌+◌, ◌*◌, ◌^◌, ◌<◌, ◌≤◌, Bool, true, false, ◌||◌, List, [], ◌∷◌, length, ℤ, refl, if◌then◌else◌}
 use Rattle.std.proofs.Common.{sym, ◌∙◌, ap}
 use Rattle.std.proofs.Math.Bool.{or_assoc, or-false}
 use native.Mathlib.Omega.{arith}
-use Rattle.numbers.specs.Notation.{if◌then◌else◌, flag}
+use Rattle.numbers.specs.Notation.{flag}
 use Rattle.numbers.specs.NotationLaws.{flag-most, flag-none}
 use Rattle.reading.specs.Values.{squares, rms}
 use Rattle.reading.specs.Clipping.{any_clipped}

@@ -1,9 +1,9 @@
 -- What a change in progress carries follows the history, whatever signal it stands under: its sum stays, its greatest difference and its mark grow by the value
 -- that leaves the window, the stand that it keeps as it is told. What begins with a value is the reading's change there, and what ends is the reading's event.
-use Rattle.std.specs.Prelude.{◌≡◌, refl, Bool, true, false, ◌||◌, List, [], ◌∷◌, map, ℕ, zero, suc, ◌+◌, ◌-◌, ◌*◌, ◌≤◌, ◌<◌, max, length, take, drop, get_or}
+use Rattle.std.specs.Prelude.{◌≡◌, refl, Bool, true, false, ◌||◌, List, [], ◌∷◌, map, ℕ, zero, suc, ◌+◌, ◌-◌, ◌*◌, ◌≤◌, ◌<◌, max, length, take, drop, get_or, if◌then◌else◌}
 use Rattle.std.proofs.Common.{sym, ◌∙◌, ap, arith, length-drop, drop-cons, ltb-true, ltb-false}
 use Rattle.settings.specs.declared.Settings.{Settings}
-use Rattle.numbers.specs.Notation.{◌<ᵇ◌, ◌≡ᵇ◌, if◌then◌else◌, flag}
+use Rattle.numbers.specs.Notation.{◌<ᵇ◌, ◌≡ᵇ◌, flag}
 use Rattle.settings.specs.Settings.{window_length_of}
 use Rattle.settings.specs.SettingsLaws.{window_length_of-some, window_length_of-most}
 use Rattle.reading.specs.Values.{since, up_to}

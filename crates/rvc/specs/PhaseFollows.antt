@@ -1,8 +1,8 @@
 -- The phase follows the history under any signal: stepped by a value, at which the signal is true or not, it is the phase of the longer history under the signal
 -- as it then turns. Under its own signal that is the reading's phase, and the record that ends is the one that the reading has due, with its mark.
-use Rattle.std.specs.Prelude.{◌≡◌, refl, Bool, true, false, ◌||◌, List, ◌∷◌, map, ℕ, suc, ◌-◌, ◌≤◌, ◌<◌, length}
+use Rattle.std.specs.Prelude.{◌≡◌, refl, Bool, true, false, ◌||◌, List, ◌∷◌, map, ℕ, suc, ◌-◌, ◌≤◌, ◌<◌, length, if◌then◌else◌}
 use Rattle.std.proofs.Common.{sym, ◌∙◌, ap, arith}
-use Rattle.numbers.specs.Notation.{◌<ᵇ◌, if◌then◌else◌, flag}
+use Rattle.numbers.specs.Notation.{◌<ᵇ◌, flag}
 use Rattle.settings.specs.declared.Settings.{Settings}
 use Rattle.settings.specs.Settings.{window_length_of}
 use Rattle.reading.specs.Clipping.{record_of}

@@ -1,7 +1,7 @@
 -- The steady signal as the code keeps it: the limit in force, where it is held, whether it is true at a value, and what it is after one; and the same of the
 -- reading's signal, for any truth.
-use Rattle.std.specs.Prelude.{Bool, true, false, List, ℕ, suc, ◌-◌, ◌≤◌, ◌<◌, length}
-use Rattle.numbers.specs.Notation.{◌≤ᵇ◌, ◌<ᵇ◌, if◌then◌else◌}
+use Rattle.std.specs.Prelude.{Bool, true, false, List, ℕ, suc, ◌-◌, ◌≤◌, ◌<◌, length, if◌then◌else◌}
+use Rattle.numbers.specs.Notation.{◌≤ᵇ◌, ◌<ᵇ◌}
 use Rattle.settings.specs.declared.Settings.{Settings}
 use Rattle.settings.specs.declared.Scaled.{Scaled}
 use Rattle.settings.specs.Settings.{window_length_of}

@@ -1,9 +1,9 @@
 -- The signal follows the history of its channel: it turns by its truth alone, and from the code's signal and window of the older values its truth at a value and
 -- what it is after it are those of the reading.
-use Rattle.std.specs.Prelude.{◌≡◌, refl, Bool, true, false, List, [], ◌∷◌, ℕ, suc, ◌+◌, ◌-◌, ◌≤◌, ◌<◌, length}
+use Rattle.std.specs.Prelude.{◌≡◌, refl, Bool, true, false, List, [], ◌∷◌, ℕ, suc, ◌+◌, ◌-◌, ◌≤◌, ◌<◌, length, if◌then◌else◌}
 use Rattle.std.proofs.Common.{sym, ◌∙◌, ap, subst, arith, le-leb, leb-true, leb-false}
 use Rattle.std.proofs.lemmas.Bool.{lt-leb}
-use Rattle.numbers.specs.Notation.{◌≤ᵇ◌, ◌<ᵇ◌, if◌then◌else◌}
+use Rattle.numbers.specs.Notation.{◌≤ᵇ◌, ◌<ᵇ◌}
 use Rattle.settings.specs.declared.Settings.{Settings}
 use Rattle.settings.specs.Settings.{window_length_of}
 use Rattle.settings.specs.SettingsLaws.{window_length_of-some, window_length_of-most}

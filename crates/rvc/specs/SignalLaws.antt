@@ -1,7 +1,6 @@
 -- The code's test of the signal, from the values that stay in the window and the scaled limits, is that of the reading's calm.
-use Rattle.std.specs.Prelude.{◌≡◌, refl, Bool, true, false, List, ℕ, suc, ◌+◌, ◌-◌, ◌*◌, ◌/◌, ◌≤◌, ◌<◌, length, take}
+use Rattle.std.specs.Prelude.{◌≡◌, refl, Bool, true, false, List, ℕ, suc, ◌+◌, ◌-◌, ◌*◌, ◌/◌, ◌≤◌, ◌<◌, length, take, if◌then◌else◌}
 use Rattle.std.proofs.Common.{sym, ◌∙◌, true≢false, arith, mul-le-mul, le_refl, ltb-false, leb-false}
-use Rattle.numbers.specs.Notation.{if◌then◌else◌}
 use Rattle.settings.specs.declared.Settings.{Settings}
 use Rattle.settings.specs.Settings.{window_length_of, scaled_of, ValidSettings}
 use Rattle.settings.specs.SettingsLaws.{window_length_of-some, window_length_of-most}

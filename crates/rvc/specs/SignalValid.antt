@@ -1,7 +1,7 @@
 -- What the signal says of the number of values is kept by its step, from every signal of which it holds, also from one that no recording gives.
-use Rattle.std.specs.Prelude.{◌≡◌, refl, Bool, true, false, ℕ, suc, ◌≤◌}
+use Rattle.std.specs.Prelude.{◌≡◌, refl, Bool, true, false, ℕ, suc, ◌≤◌, if◌then◌else◌}
 use Rattle.std.proofs.Common.{arith, ltb-true, ltb-false}
-use Rattle.numbers.specs.Notation.{◌<ᵇ◌, if◌then◌else◌}
+use Rattle.numbers.specs.Notation.{◌<ᵇ◌}
 use Rattle.rvc.specs.declared.Signal.{Signal}
 use Rattle.rvc.specs.declared.Signal.TheVariants.{Filling, Unsettled, Steady, Changing}
 use Rattle.rvc.specs.Signal.{signal_after, ValidSignal}

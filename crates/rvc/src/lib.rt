@@ -1,8 +1,8 @@
 // Rapid voltage changes: the steady signal, the phase with what a change in progress carries, and one value's step of each.
 #![tactic(auto)]
 
-ghost use Rattle.std.specs.Prelude.{◌≡◌, ◌||◌, ◌*◌, ◌≤◌, max};
-ghost use Rattle.numbers.specs.Notation.{◌<ᵇ◌, ◌≡ᵇ◌, if◌then◌else◌};
+ghost use Rattle.std.specs.Prelude.{◌≡◌, ◌||◌, ◌*◌, ◌≤◌, max, if◌then◌else◌};
+ghost use Rattle.numbers.specs.Notation.{◌<ᵇ◌, ◌≡ᵇ◌};
 ghost use Rattle.reading.specs.Changes.{gap};
 ghost use Rattle.rvc.specs.Signal.{limit_of, held_at, steady_by, signal_after, TestReady};
 ghost use Rattle.rvc.specs.Phase.{change_from, grown, closing, signal_in, onward, ended_of, moved_by, moved_on, Joins};

@@ -1,6 +1,6 @@
 -- Samples in bytes: low byte first, two's complement.
-use Rattle.std.specs.Prelude.{List, [], ◌∷◌, ℕ, ◌+◌, ◌-◌, ◌*◌, ℤ, pos, negsuc}
-use Rattle.numbers.specs.Notation.{◌<ᵇ◌, if◌then◌else◌}
+use Rattle.std.specs.Prelude.{List, [], ◌∷◌, ℕ, ◌+◌, ◌-◌, ◌*◌, ℤ, pos, negsuc, if◌then◌else◌}
+use Rattle.numbers.specs.Notation.{◌<ᵇ◌}
 
 -- a number of 16 bits in two's complement: n, or from 32,768 on n − 65,536, which is −1 − (65,535 − n)
 unfoldable pub signed : ℕ → ℤ

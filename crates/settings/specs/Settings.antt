@@ -1,7 +1,7 @@
 -- 01, "Settings": nine numbers of 4 bytes, their ranges, and the refusals of start.
-use Rattle.std.specs.Prelude.{List, [], ◌∷◌, ℕ, ◌+◌, ◌-◌, ◌*◌, ◌/◌, length, get_or, replicate}
+use Rattle.std.specs.Prelude.{List, [], ◌∷◌, ℕ, ◌+◌, ◌-◌, ◌*◌, ◌/◌, length, get_or, replicate, if◌then◌else◌}
 use Rattle.octets.specs.Bytes.{row, numbers_in, total}
-use Rattle.numbers.specs.Notation.{◌≡ᵇ◌, if◌then◌else◌, refuse◌unless◌then◌}
+use Rattle.numbers.specs.Notation.{◌≡ᵇ◌, refuse◌unless◌then◌}
 use Rattle.numbers.specs.Rules.{Rule, passes, Holds}
 use Rattle.numbers.specs.Rules.Rule.{◌≤ʳ◌, ◌<ʳ◌, ◌≡ʳ◌, ◌and◌, ◌or◌}
 use Rattle.numbers.specs.Answers.{Answered, answered}

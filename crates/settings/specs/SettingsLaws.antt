@@ -1,12 +1,12 @@
 -- Settings that start accepts, as facts; settings to bytes and back, both ways; and what an answer tells.
-use Rattle.std.specs.Prelude.{◌≡◌, refl, ◌≢◌, Bool, true, false, List, ℕ, ◌≤◌, ◌<◌, length}
+use Rattle.std.specs.Prelude.{◌≡◌, refl, ◌≢◌, Bool, true, false, List, ℕ, ◌≤◌, ◌<◌, length, if◌then◌else◌}
 use Rattle.std.proofs.Math.Path.{sym}
 use Rattle.std.proofs.Common.{◌∙◌, ap, ap₂, arith}
 use Rattle.std.proofs.Math.Logic.◌⊎◌.{inl, inr}
 use borrow.Author.Tests.{eqb-true, eq-eqb}
 use Rattle.octets.specs.Bytes.{Bytes}
 use Rattle.octets.specs.RowLaws.{Fit, length-row, numbers_in-row, row-numbers_in}
-use Rattle.numbers.specs.Notation.{◌≡ᵇ◌, if◌then◌else◌}
+use Rattle.numbers.specs.Notation.{◌≡ᵇ◌}
 use Rattle.numbers.specs.NotationLaws.{refuse-passes, refuse-none}
 use Rattle.numbers.specs.Rules.{passes, Holds}
 use Rattle.numbers.specs.Rules.Rule.{◌and◌}

@@ -1,6 +1,6 @@
 -- What a logger keeps: of a fresh one, of one that a recording leaves, what look tells of it, and what refusal 11 allows.
-use Rattle.std.specs.Prelude.{List, ℕ, ◌-◌, ◌≤◌, min, replicate, get_or, ℤ}
-use Rattle.numbers.specs.Notation.{◌<ᵇ◌, flag, if◌then◌else◌}
+use Rattle.std.specs.Prelude.{List, ℕ, ◌-◌, ◌≤◌, min, replicate, get_or, ℤ, if◌then◌else◌}
+use Rattle.numbers.specs.Notation.{◌<ᵇ◌, flag}
 use Rattle.numbers.specs.Rules.{Holds}
 use Rattle.settings.specs.declared.Settings.{Settings}
 use Rattle.settings.specs.Settings.{window_length_of, ValidSettings}

@@ -1,8 +1,8 @@
 // What a logger keeps: the settings, the gatherer, what is kept of the values, and the window of the last ones and of their marks. In specs/: what samples do to it.
 #![tactic(auto)]
 
-ghost use Rattle.std.specs.Prelude.{◌≡◌, ◌≤◌, length, take};
-ghost use Rattle.numbers.specs.Notation.{◌<ᵇ◌, if◌then◌else◌};
+ghost use Rattle.std.specs.Prelude.{◌≡◌, ◌≤◌, length, take, if◌then◌else◌};
+ghost use Rattle.numbers.specs.Notation.{◌<ᵇ◌};
 ghost use Rattle.settings.specs.Settings.{ValidSettings};
 ghost use Rattle.reading.specs.Changes.{sum as sum_of};
 ghost use Rattle.state.specs.State.{fresh as fresh_of, phase_number_of, readings_of, ValidState};

@@ -1,10 +1,10 @@
 -- The joint events: when they stand, and that at most three records are due at one value.
-use Rattle.std.specs.Prelude.{◌≡◌, refl, ◌⊎◌, Bool, true, false, ◌&&◌, ◌||◌, List, [], ◌∷◌, ◌++◌, ℕ, suc, ◌+◌, ◌-◌, ◌*◌, ◌≤◌, ◌<◌, length, drop, ℤ}
+use Rattle.std.specs.Prelude.{◌≡◌, refl, ◌⊎◌, Bool, true, false, ◌&&◌, ◌||◌, List, [], ◌∷◌, ◌++◌, ℕ, suc, ◌+◌, ◌-◌, ◌*◌, ◌≤◌, ◌<◌, length, drop, ℤ, if◌then◌else◌}
 use Rattle.std.proofs.Common.{sym, ◌∙◌, inl, inr, arith, mul-le-mul, le_refl, length-append, ltb-true, leb-false}
 use Rattle.std.proofs.lemmas.List.{length-map}
 use Rattle.settings.specs.declared.Settings.{Settings}
 use Rattle.settings.specs.Settings.{window_length_of, ValidSettings}
-use Rattle.numbers.specs.Notation.{◌<ᵇ◌, ◌≡ᵇ◌, if◌then◌else◌, flag}
+use Rattle.numbers.specs.Notation.{◌<ᵇ◌, ◌≡ᵇ◌, flag}
 use Rattle.numbers.specs.NotationLaws.{flag-most}
 use Rattle.reading.specs.declared.Kind.{Kind}
 use Rattle.reading.specs.declared.Kind.TheVariants.{Dip, Swell, Interruption}

@@ -1,8 +1,7 @@
 -- Feed's ways out, over plain variables: a block that is refused and one that is fed; and what it takes is within the block.
-use Rattle.std.specs.Prelude.{◌≡◌, ◌≢◌, Bool, List, ℕ, ◌*◌, ◌%◌, ◌≤◌, length, ℤ}
+use Rattle.std.specs.Prelude.{◌≡◌, ◌≢◌, Bool, List, ℕ, ◌*◌, ◌%◌, ◌≤◌, length, ℤ, if◌then◌else◌}
 use Rattle.std.proofs.Math.Path.{sym}
 use Rattle.std.proofs.Common.{◌∙◌, ap, arith, eq-eqb, ne_eqb}
-use Rattle.numbers.specs.Notation.{if◌then◌else◌}
 use Rattle.numbers.specs.Answers.Answered.{accepted, refused}
 use Rattle.reading.specs.Calls.{Outcome}
 use Rattle.three_reading.specs.Three.{triples_of}

@@ -1,7 +1,7 @@
 -- 02, N2: rapid voltage changes of three channels, with N5's recovery from a long dip.
-use Rattle.std.specs.Prelude.{Bool, true, false, ◌&&◌, ◌||◌, List, [], ◌∷◌, ℕ, suc, ◌-◌, length, drop}
+use Rattle.std.specs.Prelude.{Bool, true, false, ◌&&◌, ◌||◌, List, [], ◌∷◌, ℕ, suc, ◌-◌, length, drop, if◌then◌else◌}
 use Rattle.settings.specs.declared.Settings.{Settings}
-use Rattle.numbers.specs.Notation.{◌≤ᵇ◌, ◌<ᵇ◌, ◌≡ᵇ◌, if◌then◌else◌}
+use Rattle.numbers.specs.Notation.{◌≤ᵇ◌, ◌<ᵇ◌, ◌≡ᵇ◌}
 use Rattle.settings.specs.Settings.{window_length_of}
 use Rattle.reading.specs.declared.Kind.TheVariants.{Dip, Swell}
 use Rattle.reading.specs.declared.Event.{Event}

@@ -1,7 +1,7 @@
 -- 02, N2: dips, swells and interruptions of three channels.
-use Rattle.std.specs.Prelude.{Bool, ◌&&◌, List, [], ◌∷◌, map, ℕ, suc, ◌-◌, length}
+use Rattle.std.specs.Prelude.{Bool, ◌&&◌, List, [], ◌∷◌, map, ℕ, suc, ◌-◌, length, if◌then◌else◌}
 use Rattle.settings.specs.declared.Settings.{Settings}
-use Rattle.numbers.specs.Notation.{◌<ᵇ◌, ◌≡ᵇ◌, if◌then◌else◌}
+use Rattle.numbers.specs.Notation.{◌<ᵇ◌, ◌≡ᵇ◌}
 use Rattle.reading.specs.declared.Kind.{Kind}
 use Rattle.reading.specs.declared.Kind.TheVariants.{Dip, Swell, Interruption}
 use Rattle.reading.specs.declared.Event.{Event}

@@ -1,9 +1,9 @@
 -- 02, N2, the list of calls of a three-phase logger: each call's answer, read from the three recordings and the settings only.
-use Rattle.std.specs.Prelude.{List, [], ◌∷◌, ◌++◌, ℕ, zero, suc, ◌*◌, ◌%◌, length, take, get_or, ℤ}
+use Rattle.std.specs.Prelude.{List, [], ◌∷◌, ◌++◌, ℕ, zero, suc, ◌*◌, ◌%◌, length, take, get_or, ℤ, if◌then◌else◌}
 use Rattle.octets.specs.Bytes.{Bytes}
 use Rattle.settings.specs.declared.Settings.{Settings}
 use Rattle.settings.specs.Settings.{window_length_of}
-use Rattle.numbers.specs.Notation.{◌<ᵇ◌, ◌≡ᵇ◌, if◌then◌else◌}
+use Rattle.numbers.specs.Notation.{◌<ᵇ◌, ◌≡ᵇ◌}
 use Rattle.reading.specs.declared.Kind.TheVariants.{Dip, Swell, Interruption}
 use Rattle.reading.specs.declared.Told.{Told}
 use Rattle.reading.specs.Values.{Samples}

@@ -1,6 +1,6 @@
 -- What a three-phase logger keeps: of a fresh one, of one that three recordings leave, what look tells of it, and what holds of it.
-use Rattle.std.specs.Prelude.{◌≡◌, List, ℕ, ◌-◌, min, ◌≤◌, replicate, get_or, ℤ}
-use Rattle.numbers.specs.Notation.{◌<ᵇ◌, if◌then◌else◌}
+use Rattle.std.specs.Prelude.{◌≡◌, List, ℕ, ◌-◌, min, ◌≤◌, replicate, get_or, ℤ, if◌then◌else◌}
+use Rattle.numbers.specs.Notation.{◌<ᵇ◌}
 use Rattle.settings.specs.declared.Settings.{Settings}
 use Rattle.settings.specs.Settings.{window_length_of, ValidSettings}
 use Rattle.reading.specs.Changes.{window_sum}

@@ -1,6 +1,6 @@
 -- What triples do to a three-phase logger's state, from the state only: a part of a half-cycle, the part that ends one, and so one triple.
-use Rattle.std.specs.Prelude.{Bool, List, [], ◌∷◌, ◌++◌, ℕ, ◌+◌, length, ℤ}
-use Rattle.numbers.specs.Notation.{◌<ᵇ◌, if◌then◌else◌, flag}
+use Rattle.std.specs.Prelude.{Bool, List, [], ◌∷◌, ◌++◌, ℕ, ◌+◌, length, ℤ, if◌then◌else◌}
+use Rattle.numbers.specs.Notation.{◌<ᵇ◌, flag}
 use Rattle.settings.specs.Settings.{window_length_of}
 use Rattle.reading.specs.declared.Record.{Record}
 use Rattle.reading.specs.Feed.{last_value}

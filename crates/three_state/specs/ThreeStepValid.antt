@@ -1,7 +1,7 @@
 -- What holds of every state of three channels: parts keep it, and the fresh one has it. Parts have at most four records due, and pass V's end only where V is there.
-use Rattle.std.specs.Prelude.{◌≡◌, refl, Bool, true, false, List, [], ◌∷◌, ℕ, ◌+◌, ◌≤◌, ◌<◌, length, replicate}
+use Rattle.std.specs.Prelude.{◌≡◌, refl, Bool, true, false, List, [], ◌∷◌, ℕ, ◌+◌, ◌≤◌, ◌<◌, length, replicate, if◌then◌else◌}
 use Rattle.std.proofs.Common.{sym, ap₂, subst, arith, ltb-false, le-ltb}
-use Rattle.numbers.specs.Notation.{if◌then◌else◌, flag}
+use Rattle.numbers.specs.Notation.{flag}
 use Rattle.numbers.specs.NotationLaws.{flag-most}
 use Rattle.settings.specs.declared.Settings.{Settings}
 use Rattle.settings.specs.Settings.{window_length_of, ValidSettings}

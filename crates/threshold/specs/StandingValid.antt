@@ -1,11 +1,11 @@
 -- What refusal 11 allows of an event is kept by the step, from every allowed state, also from one that no recording gives.
-use Rattle.std.specs.Prelude.{◌≡◌, Bool, ◌||◌}
+use Rattle.std.specs.Prelude.{◌≡◌, Bool, ◌||◌, if◌then◌else◌}
 use Rattle.std.proofs.Math.Path.{refl}
 use Rattle.std.proofs.Math.Bool.{true, false}
 use Prim.Native.Nat.{ℕ, suc, ◌≤◌}
 use native.Mathlib.Omega.{arith}
 use Rattle.std.proofs.lemmas.Bool.{eqb-false}
-use Rattle.numbers.specs.Notation.{◌≡ᵇ◌, if◌then◌else◌}
+use Rattle.numbers.specs.Notation.{◌≡ᵇ◌}
 use Rattle.numbers.specs.NotationLaws.{flag-most}
 use Rattle.reading.specs.declared.Kind.{Kind}
 use Rattle.reading.specs.declared.Kind.TheVariants.{Dip, Swell, Interruption}

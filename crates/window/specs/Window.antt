@@ -1,6 +1,6 @@
 -- The window's step, and what a history leaves in it; of marks as of values. The window has 120 places, of which the first N at most are used, oldest first.
-use Rattle.std.specs.Prelude.{◌≡◌, ℕ, ◌-◌, List, ◌∷◌, ◌++◌, length, take, drop, slice_index, slice_range, slice_set}
-use Rattle.numbers.specs.Notation.{◌<ᵇ◌, if◌then◌else◌}
+use Rattle.std.specs.Prelude.{◌≡◌, ℕ, ◌-◌, List, ◌∷◌, ◌++◌, length, take, drop, slice_index, slice_range, slice_set, if◌then◌else◌}
+use Rattle.numbers.specs.Notation.{◌<ᵇ◌}
 use Rattle.numbers.specs.Rules.{Holds}
 use Rattle.numbers.specs.Rules.Rule.{all_up_to}
 use Rattle.reading.specs.Layout.{places}

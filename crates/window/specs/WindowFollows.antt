@@ -1,11 +1,11 @@
 -- The window follows the history, and the sum and the calm of a window are those of the history that left it.
-use Rattle.std.specs.Prelude.{◌≡◌, ℕ, zero, suc, ◌-◌, ◌*◌, ◌<◌, ◌≤◌, min, Bool, true, false, ◌&&◌, List, [], ◌∷◌, ◌++◌, reverse, length, take, drop, replicate, slice_index, slice_set, refl}
+use Rattle.std.specs.Prelude.{◌≡◌, ℕ, zero, suc, ◌-◌, ◌*◌, ◌<◌, ◌≤◌, min, Bool, true, false, ◌&&◌, List, [], ◌∷◌, ◌++◌, reverse, length, take, drop, replicate, slice_index, slice_set, refl, if◌then◌else◌}
 use Rattle.std.proofs.Common.{sym, ◌∙◌, ap, arith, length-take, take_all, take-suc, take_at, drop_at, ltb-true, ltb-false}
 use Rattle.std.proofs.Math.Bool.{and-true, and_comm}
 use mathlib.Core.List.{reverse-cons, append_assoc, reverse-append}
 use Rattle.std.proofs.lemmas.List.{length-reverse, set_at, get_or_at}
 use Rattle.std.proofs.Math.Seq.{take-nil}
-use Rattle.numbers.specs.Notation.{◌<ᵇ◌, if◌then◌else◌, all}
+use Rattle.numbers.specs.Notation.{◌<ᵇ◌, all}
 use Rattle.settings.specs.declared.Settings.{Settings}
 use Rattle.settings.specs.Settings.{window_length_of}
 use Rattle.reading.specs.Changes.{sum, window_sum, within, calm}

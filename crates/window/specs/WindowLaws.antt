@@ -1,9 +1,9 @@
 -- The pushed window: its values are those that stay and the new one, and its sum follows from the sum before.
-use Rattle.std.specs.Prelude.{◌≡◌, ℕ, zero, suc, ◌+◌, ◌-◌, ◌<◌, ◌≤◌, Bool, true, false, ◌&&◌, List, [], ◌∷◌, ◌++◌, length, take, drop, slice_index, slice_range, slice_set, refl}
+use Rattle.std.specs.Prelude.{◌≡◌, ℕ, zero, suc, ◌+◌, ◌-◌, ◌<◌, ◌≤◌, Bool, true, false, ◌&&◌, List, [], ◌∷◌, ◌++◌, length, take, drop, slice_index, slice_range, slice_set, refl, if◌then◌else◌}
 use Rattle.std.proofs.Common.{ap, sym, ◌∙◌, arith, length-drop, length-take-le, take-suc-set, le-ltb, ltb-true}
 use Rattle.std.proofs.Math.Bool.{and_assoc}
 use Rattle.std.proofs.Math.Seq.{take-append-add}
-use Rattle.numbers.specs.Notation.{◌<ᵇ◌, if◌then◌else◌, all}
+use Rattle.numbers.specs.Notation.{◌<ᵇ◌, all}
 use Rattle.reading.specs.Changes.{sum}
 use Rattle.window.specs.Window.{pushed, staying, leaving}
 

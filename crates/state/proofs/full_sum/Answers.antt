@@ -1,11 +1,11 @@
 -- Each way out is the definition's, by the test that led there.
+use Rattle.std.specs.Prelude.{if◌then◌else◌}
 use mathlib.Core.Path.{◌≡◌, sym, ◌∙◌, ap}
 use mathlib.Core.Bool.{Bool}
 use Prim.Native.Nat.{ℕ, ◌-◌}
 use native.Mathlib.Omega.{arith}
 use lib.ListN.{take}
 use borrow.Author.Tests.{lt-ltb, le-ltb}
-use Rattle.numbers.specs.Notation.{if◌then◌else◌}
 use Rattle.reading.specs.Changes.{sum}
 use Rattle.state.proofs.full_sum.Goals as goal
 

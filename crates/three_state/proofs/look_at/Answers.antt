@@ -1,7 +1,7 @@
 -- Each reading is the called function's, for the window length of the settings.
-use Rattle.std.specs.Prelude.{ℕ, ◌-◌, min, take, get_or}
+use Rattle.std.specs.Prelude.{ℕ, ◌-◌, min, take, get_or, if◌then◌else◌}
 use Rattle.std.proofs.Common.{◌∙◌, ap}
-use Rattle.numbers.specs.Notation.{◌<ᵇ◌, if◌then◌else◌}
+use Rattle.numbers.specs.Notation.{◌<ᵇ◌}
 use Rattle.reading.specs.Changes.{sum}
 use Rattle.three_state.proofs.look_at.Goals as goal
 

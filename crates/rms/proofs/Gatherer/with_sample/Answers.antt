@@ -1,8 +1,8 @@
 -- The cut decides, and the part is that of the one sample: each way out is the definition's by what the calls ensure. The sample in the array is read back
 -- from its bits.
+use Rattle.std.specs.Prelude.{if◌then◌else◌}
 use Rattle.std.proofs.Common.{◌≡◌, ℕ, Bool, true, false, [], ◌∷◌, ℤ, sym, ap, ◌∙◌, arith, w16}
 use mir.ValLaws.{to_z-of_z}
-use Rattle.numbers.specs.Notation.{if◌then◌else◌}
 use Rattle.rms.specs.declared.Part.{Part}
 use Rattle.rms.specs.declared.Gatherer.{Gatherer}
 use Rattle.rms.specs.declared.Share.{Share}

@@ -1,10 +1,10 @@
 -- The reading's test on F, with its outcome put in.
+use Rattle.std.specs.Prelude.{if◌then◌else◌}
 use mathlib.Core.Path.{sym, ap}
 use mathlib.Core.Bool.{Bool}
 use Prim.Native.Nat.{ℕ}
 use borrow.Author.Rules.{rules}
 use borrow.Author.Tests.{eq-eqb, ne_eqb}
-use Rattle.numbers.specs.Notation.{if◌then◌else◌}
 use Rattle.settings.proofs.Settings.window_length.Goals as goal
 
 abbrev length-by : Bool → ℕ

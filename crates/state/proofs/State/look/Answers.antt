@@ -1,8 +1,9 @@
 -- Each reading is the called function's, for the window length of the settings.
+use Rattle.std.specs.Prelude.{if◌then◌else◌}
 use mathlib.Core.Path.{◌∙◌, ap}
 use Prim.Native.Nat.{ℕ, ◌-◌, min}
 use lib.ListN.{take, get_or}
-use Rattle.numbers.specs.Notation.{◌<ᵇ◌, if◌then◌else◌}
+use Rattle.numbers.specs.Notation.{◌<ᵇ◌}
 use Rattle.reading.specs.Changes.{sum}
 use Rattle.state.specs.State.{readings_of}
 use Rattle.state.proofs.State.look.Goals as goal
