@@ -35,12 +35,16 @@ answer-is s v body ns r e n-is t = ap (λ (b : Bool). answer-by b v ns) t ∙ (�
 module _ (c : After-events_good) where
   abbrev at_row : After-events_numbers-numbers
   at_row = c
+
   abbrev ns : List ℕ
   ns = at_row.events_numbers.result
+
   abbrev start : Start
   start = at_row.before.before
+
   abbrev v : ℕ
   v = start.args.count
+
   answer : answer-by c.events_good.result v ns ≡ detector_answer start.args.settings v start.args.part.now
   answer = answer-is _ v _ ns _ at_row.events_numbers.ensures c.window_length.ensures.0 c.events_good.ensures
 

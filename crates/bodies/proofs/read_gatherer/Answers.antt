@@ -29,10 +29,13 @@ answer-is s body ns r e t = ap (λ (b : Bool). answer-by b ns) t ∙ ap (λ (l :
 module _ (c : After-gatherer_good) where
   abbrev at_row : After-get_row
   at_row = c
+
   abbrev ns : List ℕ
   ns = at_row.get_row.last.1.1.0
+
   abbrev start : Start
   start = at_row.before.before.before.before
+
   answer : answer-by c.gatherer_good.result ns ≡ gatherer_answer start.args.settings start.args.part.now
   answer = answer-is _ _ _ _ at_row.get_row.ensures c.gatherer_good.ensures
 

@@ -72,12 +72,16 @@ module _ (body : List ℕ) (size : length body ≡ values_length) where
 module _ (c : After-values_good) where
   abbrev at_copy : After-copy
   at_copy = c
+
   abbrev at_words : After-get_words
   at_words = at_copy.before.before.before.before
+
   abbrev at-number : After-number-count
   at-number = at_words.before.before.before
+
   abbrev start : Start
   start = at-number.before.before.before
+
   answer : {verdict : Verdict} → values_number verdict ≡ number_by c.values_good.result →
       WindowTold start.args.settings start.args.whole start.args.part.now
       (record { verdict = verdict; count = at-number.number.result; window = at_words.get_words.last.1.0; marks = at_copy.copy.last.0 })

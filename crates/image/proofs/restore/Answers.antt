@@ -25,10 +25,13 @@ use Rattle.image.proofs.restore.Goals as goal
 module _ (c : After-read_table) where
   abbrev old : State
   old = c.args.old
+
   abbrev image : List ℕ
   image = c.args.bytes.now
+
   abbrev after_table : Verdict → Restoration State
   after_table r = by-table old image (table_number r)
+
   at_table : restored_by old image ≡ after_table c.read_table.result
   at_table = right-length old image c.if-bytes-ne-IMAGE_LENGTH.false ∙ ap (by-table old image) (sym c.read_table.ensures)
 
@@ -36,8 +39,10 @@ module _ (c : After-read_table) where
 module _ (c : After-from_bytes) where
   abbrev table : After-read_table
   table = c
+
   abbrev after-settings : SettingsRead → Restoration State
   after-settings r = by-settings (old table) (image table) (settings_told r)
+
   at-settings : restored_by (old table) (image table) ≡ after-settings c.from_bytes.result
   at-settings =
       at_table table
@@ -48,12 +53,16 @@ module _ (c : After-from_bytes) where
 module _ (c : After-read_gatherer) where
   abbrev read : In-Read-2
   read = c
+
   abbrev first : After-read_table
   first = table read.before.before
+
   abbrev settings : Settings
   settings = read.settings.given.0.0
+
   abbrev after-gatherer : GathererRead → Restoration State
   after-gatherer r = by-gatherer (old first) (image first) settings (gatherer_told r)
+
   at-gatherer : restored_by (old first) (image first) ≡ after-gatherer c.read_gatherer.result
   at-gatherer =
       at-settings read.before.before
@@ -64,10 +73,13 @@ module _ (c : After-read_gatherer) where
 module _ (c : After-read_window-read) where
   abbrev g : After-read_gatherer
   g = c
+
   abbrev gatherer : Gatherer
   gatherer = c.in-Read-read_gatherer.gatherer
+
   abbrev after-window : Verdict → Restoration State
   after-window r = by-window (old (first g)) (image (first g)) (settings g) gatherer (values_number r)
+
   at-window : restored_by (old (first g)) (image (first g)) ≡ after-window c.read_window-read.result.verdict
   at-window =
       at-gatherer g
@@ -78,10 +90,13 @@ module _ (c : After-read_window-read) where
 module _ (c : After-read_detector) where
   abbrev w : After-read_window-read
   w = c
+
   abbrev bytes : List ℕ
   bytes = image (first (g w))
+
   abbrev after-detector : DetectorRead → Restoration State
   after-detector r = by-detector (old (first (g w))) bytes (settings (g w)) (gatherer w) (detector_told r)
+
   at-detector : restored_by (old (first (g w))) bytes ≡ after-detector c.read_detector.result
   at-detector =
       let by_answer = by-detector (old (first (g w))) bytes (settings (g w)) (gatherer w) in
