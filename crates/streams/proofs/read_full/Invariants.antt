@@ -1,0 +1,6 @@
+-- What is read stays within the bytes.
+use Rattle.std.proofs.Common.{◌≤◌, length}
+use Rattle.streams.proofs.read_full.Given as goal
+
+abbrev pub invariant-loop : goal.invariant-loop
+invariant-loop g l = l.count ≤ length l.bytes
