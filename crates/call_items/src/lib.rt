@@ -5,7 +5,6 @@
 ghost use Rattle.std.specs.Prelude.{◌≡◌, ◌++◌, ◌*◌, ◌≤◌, ◌<◌, length, drop, replicate};
 ghost use Rattle.call_items.specs.Items.{no_item, NextItem, digit_of, hex_of};
 
-use libc::{STDIN_FILENO, STDOUT_FILENO};
 use reading::Told;
 
 // The kinds of items that all of them know.
@@ -48,17 +47,19 @@ fn no_item() -> Item
 }
 
 // The next item, with the bytes that follow it at the start of `bytes`; the others stay.
-pub fn next_item(bytes: &mut [u8]) -> Item
+pub fn next_item(rt: HostRuntime, bytes: &mut [u8]) -> Item
     requires { 65535 ≤ length bytes.old }
     ensures { NextItem bytes.old result bytes.new }
 {
     let mut head = [0u8; HEAD];
-    if io::read_full(STDIN_FILENO, &mut head) < HEAD {
+    let got = streams::read_full(&mut rt.stdin(), &mut head);
+    if got.count < HEAD {
         return no_item();
     }
     let count = octets::get_u16(&head, 4);
     let length = count as usize;
-    if io::read_full(STDIN_FILENO, &mut bytes[..length]) < length {
+    let following = streams::read_full(&mut rt.stdin(), &mut bytes[..length]);
+    if following.count < length {
         return no_item();
     }
     Item {
@@ -69,32 +70,40 @@ pub fn next_item(bytes: &mut [u8]) -> Item
     }
 }
 
-pub fn print_word(word: &[u8]) {
-    io::write_all(STDOUT_FILENO, word);
+// Prints, as far as it can: a text that is cut short is no answer.
+pub fn print_word(rt: HostRuntime, word: &[u8]) {
+    let _ = streams::write_all(&mut rt.stdout(), word);
 }
 
-pub fn print_number(number: u64) {
-    io::write_all(STDOUT_FILENO, b" ");
-    io::print_decimal(STDOUT_FILENO, number);
+// Prints a number in base ten.
+pub fn print_decimal(rt: HostRuntime, number: u64) {
+    let mut digits = [0u8; 20];
+    let count = io::decimal(number, &mut digits);
+    print_word(rt, &digits[..count]);
 }
 
-pub fn print_mark(mark: bool) {
+pub fn print_number(rt: HostRuntime, number: u64) {
+    print_word(rt, b" ");
+    print_decimal(rt, number);
+}
+
+pub fn print_mark(rt: HostRuntime, mark: bool) {
     if mark {
-        print_number(1);
+        print_number(rt, 1);
     } else {
-        print_number(0);
+        print_number(rt, 0);
     }
 }
 
-pub fn end_line() {
-    io::write_all(STDOUT_FILENO, b"\n");
+pub fn end_line(rt: HostRuntime) {
+    print_word(rt, b"\n");
 }
 
 // A line of a word and a number.
-pub fn print_answer(word: &[u8], number: u64) {
-    print_word(word);
-    print_number(number);
-    end_line();
+pub fn print_answer(rt: HostRuntime, word: &[u8], number: u64) {
+    print_word(rt, word);
+    print_number(rt, number);
+    end_line(rt);
 }
 
 // A digit in base sixteen.
@@ -125,15 +134,15 @@ fn put_hex(text: &mut [u8], bytes: &[u8])
 }
 
 // Bytes in base sixteen, and the line's end.
-pub fn print_bytes(bytes: &[u8])
+pub fn print_bytes(rt: HostRuntime, bytes: &[u8])
     requires { length bytes.now ≤ 65535 }
 {
     let mut text = [0u8; 2 * MOST];
     let end = 2 * bytes.len();
     put_hex(&mut text, bytes);
-    io::write_all(STDOUT_FILENO, b" ");
-    io::write_all(STDOUT_FILENO, &text[..end]);
-    end_line();
+    print_word(rt, b" ");
+    print_word(rt, &text[..end]);
+    end_line(rt);
 }
 
 pub fn set_all(buffer: &mut [u8], byte: u8)
@@ -147,9 +156,9 @@ pub fn set_all(buffer: &mut [u8], byte: u8)
 }
 
 // What feed tells, or a trial: a word and three numbers.
-pub fn print_told(word: &[u8], told: Told) {
-    print_word(word);
-    print_number(told.taken as u64);
-    print_number(told.written as u64);
-    print_number(told.why as u64);
+pub fn print_told(rt: HostRuntime, word: &[u8], told: Told) {
+    print_word(rt, word);
+    print_number(rt, told.taken as u64);
+    print_number(rt, told.written as u64);
+    print_number(rt, told.why as u64);
 }

@@ -61,27 +61,34 @@ struct Counted {
     halves: usize,
 }
 
-fn feed_block(logger: Logger, block: &[i16], records: &mut [u8]) -> Logger
+fn feed_block(rt: HostRuntime, logger: Logger, block: &[i16], records: &mut [u8]) -> Logger
     requires { ValidState logger.state × (length records.old ≤ 65535) }
     ensures { ValidState result.state }
 {
     let fed = logger.feed(block, records);
     let told = fed.told;
-    call_items::print_told(b"feed", told);
-    call_items::print_bytes(records);
+    call_items::print_told(rt, b"feed", told);
+    call_items::print_bytes(rt, records);
     fed.logger
 }
 
-fn try_block(logger: Logger, block: &[i16], scratch: &mut [u8])
+fn try_block(rt: HostRuntime, logger: Logger, block: &[i16], scratch: &mut [u8])
     requires { ValidState logger.state × (length scratch.old ≤ 65535) }
 {
     let told = logger.trial(block, scratch);
-    call_items::print_told(b"trial", told);
-    call_items::print_bytes(scratch);
+    call_items::print_told(rt, b"trial", told);
+    call_items::print_bytes(rt, scratch);
 }
 
 // Feeds or tries the samples of these bytes with this buffer; the logger that goes on.
-fn feed_or_try(logger: Logger, trial: bool, bytes: &[u8], lent: &mut [u8], fill: u8) -> Logger
+fn feed_or_try(
+    rt: HostRuntime,
+    logger: Logger,
+    trial: bool,
+    bytes: &[u8],
+    lent: &mut [u8],
+    fill: u8,
+) -> Logger
     requires { ValidState logger.state × (length bytes.now ≤ 65535) × (length lent.old ≤ 65535) }
     ensures { ValidState result.state }
 {
@@ -92,25 +99,25 @@ fn feed_or_try(logger: Logger, trial: bool, bytes: &[u8], lent: &mut [u8], fill:
     samples::decode(&bytes[..even], block);
     call_items::set_all(lent, fill);
     if trial {
-        try_block(logger, block, lent);
+        try_block(rt, logger, block, lent);
         return logger;
     }
-    feed_block(logger, block, lent)
+    feed_block(rt, logger, block, lent)
 }
 
-fn look(logger: Logger)
+fn look(rt: HostRuntime, logger: Logger)
     requires { ValidState logger.state }
 {
     let readings = logger.look();
-    call_items::print_word(b"look");
-    call_items::print_number(readings.count);
-    call_items::print_number(readings.value);
-    call_items::print_number(readings.sum);
-    call_items::print_number(readings.phase as u64);
-    call_items::print_mark(readings.dip);
-    call_items::print_mark(readings.swell);
-    call_items::print_mark(readings.interruption);
-    call_items::end_line();
+    call_items::print_word(rt, b"look");
+    call_items::print_number(rt, readings.count);
+    call_items::print_number(rt, readings.value);
+    call_items::print_number(rt, readings.sum);
+    call_items::print_number(rt, readings.phase as u64);
+    call_items::print_mark(rt, readings.dip);
+    call_items::print_mark(rt, readings.swell);
+    call_items::print_mark(rt, readings.interruption);
+    call_items::end_line(rt);
 }
 
 fn copy(to: &mut [u8], from: &[u8])
@@ -141,41 +148,48 @@ fn keep(saves: &mut [u8], kept: usize, image: &[u8]) -> usize
 }
 
 // Saves into this buffer; tells how many saves are kept then.
-fn save(logger: Logger, image: &mut [u8], fill: u8, saves: &mut [u8], kept: usize) -> usize
+fn save(
+    rt: HostRuntime,
+    logger: Logger,
+    image: &mut [u8],
+    fill: u8,
+    saves: &mut [u8],
+    kept: usize,
+) -> usize
     requires { (length image.old ≤ 65535) × (length saves.old ≡ 16 * image_length) × (kept ≤ 16) }
     ensures { result ≤ 16 }
 {
     call_items::set_all(image, fill);
     let number = logger.save(image);
-    call_items::print_word(b"save");
-    call_items::print_number(number as u64);
-    call_items::print_bytes(image);
+    call_items::print_word(rt, b"save");
+    call_items::print_number(rt, number as u64);
+    call_items::print_bytes(rt, image);
     if 0 < number {
         return kept;
     }
     keep(saves, kept, image)
 }
 
-fn restore(logger: Logger, bytes: &[u8]) -> Logger
+fn restore(rt: HostRuntime, logger: Logger, bytes: &[u8]) -> Logger
     requires { ValidState logger.state }
     ensures { ValidState result.state }
 {
     let resumed = logger.restore(bytes);
     let answer = resumed.answer;
-    call_items::print_answer(b"restore", answer.number() as u64);
+    call_items::print_answer(rt, b"restore", answer.number() as u64);
     resumed.logger
 }
 
-fn restore_save(logger: Logger, saves: &[u8], kept: usize, which: usize) -> Logger
+fn restore_save(rt: HostRuntime, logger: Logger, saves: &[u8], kept: usize, which: usize) -> Logger
     requires { ValidState logger.state × (length saves.now ≡ 16 * image_length) × (kept ≤ 16) }
     ensures { ValidState result.state }
 {
     if which < kept {
         let start = IMAGE_LENGTH * which;
         let end = start + IMAGE_LENGTH;
-        return restore(logger, &saves[start..end]);
+        return restore(rt, logger, &saves[start..end]);
     }
-    call_items::print_word(b"none\n");
+    call_items::print_word(rt, b"none\n");
     logger
 }
 
@@ -237,21 +251,21 @@ fn gather_parts(half_length: u32, samples: &[i16]) -> Counted
     }
 }
 
-fn print_counted(word: &[u8], counted: Counted) {
-    call_items::print_word(word);
+fn print_counted(rt: HostRuntime, word: &[u8], counted: Counted) {
+    call_items::print_word(rt, word);
     let gatherer = counted.gatherer;
-    call_items::print_number(gatherer.count as u64);
-    call_items::print_number(gatherer.sum);
-    call_items::print_number(gatherer.last);
-    call_items::print_mark(gatherer.whole);
-    call_items::print_mark(gatherer.clipped);
-    call_items::print_mark(gatherer.last_clipped);
-    call_items::print_number(counted.halves as u64);
-    call_items::end_line();
+    call_items::print_number(rt, gatherer.count as u64);
+    call_items::print_number(rt, gatherer.sum);
+    call_items::print_number(rt, gatherer.last);
+    call_items::print_mark(rt, gatherer.whole);
+    call_items::print_mark(rt, gatherer.clipped);
+    call_items::print_mark(rt, gatherer.last_clipped);
+    call_items::print_number(rt, counted.halves as u64);
+    call_items::end_line(rt);
 }
 
 // Gathers the samples of these bytes both ways.
-fn gather(half_length: u32, bytes: &[u8])
+fn gather(rt: HostRuntime, half_length: u32, bytes: &[u8])
     requires { (0 < half_length) × (half_length ≤ 256) × (length bytes.now ≤ 65535) }
 {
     let count = bytes.len() / 2;
@@ -259,24 +273,31 @@ fn gather(half_length: u32, bytes: &[u8])
     let mut places = [0i16; MOST_SAMPLES];
     let block: &mut [i16] = &mut places[..count];
     samples::decode(&bytes[..even], block);
-    print_counted(b"samples", gather_samples(half_length, block));
-    print_counted(b"parts", gather_parts(half_length, block));
+    print_counted(rt, b"samples", gather_samples(half_length, block));
+    print_counted(rt, b"parts", gather_parts(half_length, block));
 }
 
 // Gathers, where the half-cycle has a length that the gatherer is made for.
-fn try_gather(half_length: u32, bytes: &[u8])
+fn try_gather(rt: HostRuntime, half_length: u32, bytes: &[u8])
     requires { length bytes.now ≤ 65535 }
 {
     if half_length == 0 {
         return;
     }
     if half_length <= Settings::SAMPLES_MOST {
-        gather(half_length, bytes);
+        gather(rt, half_length, bytes);
     }
 }
 
 // One call; an item of another kind is none.
-fn make_call(list: List, item: Item, bytes: &[u8], space: &mut [u8], saves: &mut [u8]) -> List
+fn make_call(
+    rt: HostRuntime,
+    list: List,
+    item: Item,
+    bytes: &[u8],
+    space: &mut [u8],
+    saves: &mut [u8],
+) -> List
     requires { ValidState list.logger.state
         × (list.kept ≤ 16)
         × (length bytes.now ≤ 65535)
@@ -290,32 +311,32 @@ fn make_call(list: List, item: Item, bytes: &[u8], space: &mut [u8], saves: &mut
     let number = item.number as usize;
     let trial = kind == TRIAL;
     if trial || kind == FEED {
-        let held = feed_or_try(logger, trial, bytes, &mut space[..number], item.fill);
+        let held = feed_or_try(rt, logger, trial, bytes, &mut space[..number], item.fill);
         return List { logger: held, kept };
     }
     if kind == SAVE {
-        let more = save(logger, &mut space[..number], item.fill, saves, kept);
+        let more = save(rt, logger, &mut space[..number], item.fill, saves, kept);
         return List { logger, kept: more };
     }
     if kind == RESTORE_SAVE {
-        let held = restore_save(logger, saves, kept, number);
+        let held = restore_save(rt, logger, saves, kept, number);
         return List { logger: held, kept };
     }
     if kind == RESTORE_BYTES {
-        let held = restore(logger, bytes);
+        let held = restore(rt, logger, bytes);
         return List { logger: held, kept };
     }
     if kind == LOOK {
-        look(logger);
+        look(rt, logger);
     }
     if kind == GATHER {
-        try_gather(item.number as u32, bytes);
+        try_gather(rt, item.number as u32, bytes);
     }
     list
 }
 
 // The calls of a list, from a fresh logger on.
-fn make_calls(logger: Logger, calls: u16)
+fn make_calls(rt: HostRuntime, logger: Logger, calls: u16)
     requires { ValidState logger.state }
 {
     let mut bytes = [0u8; MOST];
@@ -324,34 +345,34 @@ fn make_calls(logger: Logger, calls: u16)
     let mut list = List { logger, kept: 0 };
     let mut left = calls;
     while 0 < left {
-        let item = call_items::next_item(&mut bytes);
+        let item = call_items::next_item(rt, &mut bytes);
         let length = item.length as usize;
-        list = make_call(list, item, &bytes[..length], &mut space, &mut saves);
+        list = make_call(rt, list, item, &bytes[..length], &mut space, &mut saves);
         left -= 1;
     }
 }
 
 // A list: start, and its calls where it is not refused.
-fn make_list(settings: &[u8], calls: u16) {
+fn make_list(rt: HostRuntime, settings: &[u8], calls: u16) {
     match Settings::from_bytes(settings) {
         SettingsRead::Read(settings) => {
-            call_items::print_word(b"start\n");
-            make_calls(Logger::fresh(settings), calls);
+            call_items::print_word(rt, b"start\n");
+            make_calls(rt, Logger::fresh(settings), calls);
         }
-        SettingsRead::Refused(number) => call_items::print_answer(b"refused", number as u64),
+        SettingsRead::Refused(number) => call_items::print_answer(rt, b"refused", number as u64),
     }
 }
 
-fn main() {
+fn main(rt: HostRuntime) {
     let mut bytes = [0u8; MOST];
     let mut left = LISTS;
     while 0 < left {
-        let item = call_items::next_item(&mut bytes);
+        let item = call_items::next_item(rt, &mut bytes);
         if item.kind != START {
             return;
         }
         let length = item.length as usize;
-        make_list(&bytes[..length], item.number);
+        make_list(rt, &bytes[..length], item.number);
         left -= 1;
     }
 }

@@ -20,30 +20,42 @@ use settings::{Settings, SettingsRead};
 use three_logger::{FeedAnswer, ThreeLogger};
 use three_reading::ChannelReadings;
 
-fn print_feed(answer: FeedAnswer) {
+fn print_feed(rt: HostRuntime, answer: FeedAnswer) {
     match answer {
-        FeedAnswer::Taken(told) => call_items::print_told(b"feed", told),
+        FeedAnswer::Taken(told) => call_items::print_told(rt, b"feed", told),
         FeedAnswer::Refused(number) => {
-            call_items::print_word(b"refused");
-            call_items::print_number(number as u64);
+            call_items::print_word(rt, b"refused");
+            call_items::print_number(rt, number as u64);
         }
     }
 }
 
-fn feed_block(logger: ThreeLogger, block: &[i16], records: &mut [u8], fill: u8) -> ThreeLogger
+fn feed_block(
+    rt: HostRuntime,
+    logger: ThreeLogger,
+    block: &[i16],
+    records: &mut [u8],
+    fill: u8,
+) -> ThreeLogger
     requires { ValidThree logger.state × (length records.old ≤ 65535) }
     ensures { ValidThree result.state }
 {
     call_items::set_all(records, fill);
     let fed = logger.feed(block, records);
     let answer = fed.answer;
-    print_feed(answer);
-    call_items::print_bytes(records);
+    print_feed(rt, answer);
+    call_items::print_bytes(rt, records);
     fed.logger
 }
 
 // Feeds the samples of these bytes with this record buffer.
-fn feed(logger: ThreeLogger, bytes: &[u8], records: &mut [u8], fill: u8) -> ThreeLogger
+fn feed(
+    rt: HostRuntime,
+    logger: ThreeLogger,
+    bytes: &[u8],
+    records: &mut [u8],
+    fill: u8,
+) -> ThreeLogger
     requires { ValidThree logger.state × (length bytes.now ≤ 65535) × (length records.old ≤ 65535) }
     ensures { ValidThree result.state }
 {
@@ -52,51 +64,57 @@ fn feed(logger: ThreeLogger, bytes: &[u8], records: &mut [u8], fill: u8) -> Thre
     let mut places = [0i16; MOST_SAMPLES];
     let block: &mut [i16] = &mut places[..count];
     samples::decode(&bytes[..even], block);
-    feed_block(logger, block, records, fill)
+    feed_block(rt, logger, block, records, fill)
 }
 
-fn print_channel(readings: ChannelReadings) {
-    call_items::print_number(readings.count);
-    call_items::print_number(readings.value);
-    call_items::print_number(readings.sum);
+fn print_channel(rt: HostRuntime, readings: ChannelReadings) {
+    call_items::print_number(rt, readings.count);
+    call_items::print_number(rt, readings.value);
+    call_items::print_number(rt, readings.sum);
 }
 
-fn look(logger: ThreeLogger)
+fn look(rt: HostRuntime, logger: ThreeLogger)
     requires { ValidThree logger.state }
 {
     let readings = logger.look();
     let a = readings.a;
     let b = readings.b;
     let c = readings.c;
-    call_items::print_word(b"look");
-    print_channel(a);
-    print_channel(b);
-    print_channel(c);
-    call_items::print_number(readings.phase as u64);
-    call_items::print_mark(readings.dip);
-    call_items::print_mark(readings.swell);
-    call_items::print_mark(readings.interruption);
-    call_items::end_line();
+    call_items::print_word(rt, b"look");
+    print_channel(rt, a);
+    print_channel(rt, b);
+    print_channel(rt, c);
+    call_items::print_number(rt, readings.phase as u64);
+    call_items::print_mark(rt, readings.dip);
+    call_items::print_mark(rt, readings.swell);
+    call_items::print_mark(rt, readings.interruption);
+    call_items::end_line(rt);
 }
 
 // One call; an item of another kind is none.
-fn make_call(logger: ThreeLogger, item: Item, bytes: &[u8], space: &mut [u8]) -> ThreeLogger
+fn make_call(
+    rt: HostRuntime,
+    logger: ThreeLogger,
+    item: Item,
+    bytes: &[u8],
+    space: &mut [u8],
+) -> ThreeLogger
     requires { ValidThree logger.state × (length bytes.now ≤ 65535) × (length space.old ≡ 65535) }
     ensures { ValidThree result.state }
 {
     let kind = item.kind;
     let number = item.number as usize;
     if kind == FEED {
-        return feed(logger, bytes, &mut space[..number], item.fill);
+        return feed(rt, logger, bytes, &mut space[..number], item.fill);
     }
     if kind == LOOK {
-        look(logger);
+        look(rt, logger);
     }
     logger
 }
 
 // The calls of a list, from a fresh logger on.
-fn make_calls(first: ThreeLogger, calls: u16)
+fn make_calls(rt: HostRuntime, first: ThreeLogger, calls: u16)
     requires { ValidThree first.state }
 {
     let mut bytes = [0u8; MOST];
@@ -104,34 +122,34 @@ fn make_calls(first: ThreeLogger, calls: u16)
     let mut logger = first;
     let mut left = calls;
     while 0 < left {
-        let item = call_items::next_item(&mut bytes);
+        let item = call_items::next_item(rt, &mut bytes);
         let length = item.length as usize;
-        logger = make_call(logger, item, &bytes[..length], &mut space);
+        logger = make_call(rt, logger, item, &bytes[..length], &mut space);
         left -= 1;
     }
 }
 
 // A list: start, and its calls where it is not refused.
-fn make_list(settings: &[u8], calls: u16) {
+fn make_list(rt: HostRuntime, settings: &[u8], calls: u16) {
     match Settings::from_bytes(settings) {
         SettingsRead::Read(settings) => {
-            call_items::print_word(b"start\n");
-            make_calls(ThreeLogger::fresh(settings), calls);
+            call_items::print_word(rt, b"start\n");
+            make_calls(rt, ThreeLogger::fresh(settings), calls);
         }
-        SettingsRead::Refused(number) => call_items::print_answer(b"refused", number as u64),
+        SettingsRead::Refused(number) => call_items::print_answer(rt, b"refused", number as u64),
     }
 }
 
-fn main() {
+fn main(rt: HostRuntime) {
     let mut bytes = [0u8; MOST];
     let mut left = LISTS;
     while 0 < left {
-        let item = call_items::next_item(&mut bytes);
+        let item = call_items::next_item(rt, &mut bytes);
         if item.kind != START {
             return;
         }
         let length = item.length as usize;
-        make_list(&bytes[..length], item.number);
+        make_list(rt, &bytes[..length], item.number);
         left -= 1;
     }
 }

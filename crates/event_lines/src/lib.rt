@@ -9,10 +9,10 @@ ghost use Rattle.reading.specs.Layout.{record_length};
 ghost use Rattle.event_lines.specs.Begun.{BegunValid};
 ghost use Rattle.event_lines.specs.Text.{column, kind_name, line_of, lines_of, Put};
 
-use libc::{STDERR_FILENO, STDIN_FILENO, STDOUT_FILENO};
 use reading::Event;
 use records::RECORD_LENGTH;
 use settings::{Settings, SettingsRead};
+use std::io::{Cursor, Error, Write};
 use streams::Got;
 
 // The longest line: a kind of 12 letters, four columns of a space and at most 20 digits, and the line's end.
@@ -23,6 +23,12 @@ const WORD_LINE: usize = 29;
 
 // Room for a line on standard error: the program's name, and at most 96 bytes.
 const MESSAGE: usize = 128;
+
+// Room for the reason of a failure, as std tells it.
+const REASON: usize = 96;
+
+// Room for a line that tells a failure: a message, a colon and a space, the reason and the line's end.
+const FAILURE: usize = MESSAGE + REASON + 3;
 
 // The phase, as look tells it, within a rapid voltage change.
 const CHANGING: u8 = 3;
@@ -119,24 +125,56 @@ pub fn put_lines(text: &mut [u8], records: &[u8], count: usize) -> usize
     at
 }
 
-// Tells on standard error that a call failed on a stream, and why. The message is made first: another call would change the reason.
-fn fail(name: &[u8], stream: &[u8])
+// Writes on standard error. There is nobody to tell a failure.
+fn say(rt: HostRuntime, text: &[u8]) {
+    let _ = streams::write_all(&mut rt.stderr(), text);
+}
+
+// How many bytes of a reason are the system's words: std puts the error's number behind them, in parentheses.
+fn count_words(reason: &[u8]) -> usize
+    ensures { result ≤ length reason.now }
+{
+    match reason.iter().rposition(|byte| *byte == b'(') {
+        Some(at) => at.saturating_sub(1),
+        None => reason.len(),
+    }
+}
+
+// Puts the reason of a failure at a place of a text, as the system names it; tells the place behind it.
+fn put_reason(text: &mut [u8], at: usize, error: Error) -> usize
+    requires { at + 96 ≤ length text.old }
+    ensures length { length text.new ≡ length text.old }
+    ensures upper_bound { result ≤ at + 96 }
+{
+    let mut reason = Cursor::new([0u8; REASON]);
+    let _ = write!(reason, "{error}");
+    let told = (reason.position() as usize).min(REASON);
+    let bytes = reason.into_inner();
+    let count = count_words(&bytes[..told]);
+    put(text, at, &bytes[..count])
+}
+
+// Tells on standard error that a call failed on a stream, and why.
+fn fail(rt: HostRuntime, name: &[u8], stream: &[u8], error: Error)
     requires { (length name.now ≤ 32) × (length stream.now ≤ 96) }
 {
-    let mut text = [0u8; MESSAGE];
+    let mut text = [0u8; FAILURE];
     let behind = put(&mut text, 0, name);
-    let end = put(&mut text, behind, stream);
-    os::fail(&text[..end]);
+    let colon = put(&mut text, behind, stream);
+    let reason = put(&mut text, colon, b": ");
+    let line = put_reason(&mut text, reason, error);
+    let end = put(&mut text, line, b"\n");
+    say(rt, &text[..end]);
 }
 
 // Reads until the bytes are full or the input ends; a read that fails is told.
-pub fn read(name: &[u8], bytes: &mut [u8]) -> Got
+pub fn read(rt: HostRuntime, name: &[u8], bytes: &mut [u8]) -> Got
     requires { length name.now ≤ 32 }
     ensures { IsPrefixLen result.count bytes.new }
 {
-    let got = streams::read_full(STDIN_FILENO, bytes);
-    if got.failed {
-        fail(name, b"standard input");
+    let got = streams::read_full(&mut rt.stdin(), bytes);
+    if let Some(error) = got.failed {
+        fail(rt, name, b"standard input", error);
     }
     got
 }
@@ -149,79 +187,82 @@ pub fn goes_on(good: bool, got: usize, whole: usize, why: u32) -> bool
 }
 
 // Prints, unless something was lost before, and tells whether nothing is; a write that fails is told.
-pub fn print(name: &[u8], printed: bool, text: &[u8]) -> bool
+pub fn print(rt: HostRuntime, name: &[u8], printed: bool, text: &[u8]) -> bool
     requires { length name.now ≤ 32 }
     ensures { result ≡ (printed && result) }
 {
     if !printed {
         return false;
     }
-    let written = streams::write_all(STDOUT_FILENO, text);
-    if !written {
-        fail(name, b"standard output");
+    match streams::write_all(&mut rt.stdout(), text) {
+        Ok(()) => true,
+        Err(error) => {
+            fail(rt, name, b"standard output", error);
+            false
+        }
     }
-    written
 }
 
-pub fn print_heading(name: &[u8]) -> bool
+pub fn print_heading(rt: HostRuntime, name: &[u8]) -> bool
     requires { length name.now ≤ 32 }
 {
-    print(name, true, b"kind start halves first second\n")
+    print(rt, name, true, b"kind start halves first second\n")
 }
 
 // Prints a line of a word of 7 letters at most and a number.
-fn print_line(name: &[u8], word: &[u8], number: u64) -> bool
+fn print_line(rt: HostRuntime, name: &[u8], word: &[u8], number: u64) -> bool
     requires { (length name.now ≤ 32) × (length word.now ≤ 7) }
 {
     let mut text = [0u8; WORD_LINE];
     let space = put(&mut text, 0, word);
     let behind = put_column(&mut text, space, number);
     let end = put(&mut text, behind, b"\n");
-    print(name, true, &text[..end])
+    print(rt, name, true, &text[..end])
 }
 
 // Reads the settings. The number of refused ones is printed, and a read that fails is told.
-pub fn begin(name: &[u8]) -> Begun
+pub fn begin(rt: HostRuntime, name: &[u8]) -> Begun
     requires { length name.now ≤ 32 }
     ensures { BegunValid result }
 {
     let mut bytes = [0u8; Settings::LENGTH];
-    let got = read(name, &mut bytes);
-    if got.failed {
+    let got = read(rt, name, &mut bytes);
+    if got.failed.is_some() {
         return Begun::Nothing;
     }
     let count = got.count;
     match Settings::from_bytes(&bytes[..count]) {
         SettingsRead::Read(settings) => Begun::With(settings),
         SettingsRead::Refused(number) => {
-            print_line(name, b"refused", number as u64);
+            print_line(rt, name, b"refused", number as u64);
             Begun::Nothing
         }
     }
 }
 
 // Tells a line on standard error, where what it says is so.
-fn tell(name: &[u8], so: bool, line: &[u8])
+fn tell(rt: HostRuntime, name: &[u8], so: bool, line: &[u8])
     requires { (length name.now ≤ 32) × (length line.now ≤ 96) }
 {
     if so {
         let mut text = [0u8; MESSAGE];
         let behind = put(&mut text, 0, name);
         let end = put(&mut text, behind, line);
-        streams::write_all(STDERR_FILENO, &text[..end]);
+        say(rt, &text[..end]);
     }
 }
 
 // Prints the number of values; tells of what has no record, since it has not ended, and of V's end, where samples are left.
-pub fn finish(name: &[u8], ending: Ending)
+pub fn finish(rt: HostRuntime, name: &[u8], ending: Ending)
     requires { length name.now ≤ 32 }
 {
-    if print_line(name, b"values", ending.count) {
-        tell(name, ending.dip, b"not ended: dip\n");
-        tell(name, ending.swell, b"not ended: swell\n");
-        tell(name, ending.interruption, b"not ended: interruption\n");
-        tell(name, ending.phase == CHANGING, b"not ended: rvc\n");
+    if print_line(rt, name, b"values", ending.count) {
+        tell(rt, name, ending.dip, b"not ended: dip\n");
+        tell(rt, name, ending.swell, b"not ended: swell\n");
+        tell(rt, name, ending.interruption, b"not ended: interruption\n");
+        tell(rt, name, ending.phase == CHANGING, b"not ended: rvc\n");
         tell(
+            rt,
             name,
             ending.why == 2,
             b"the number of values is at its end: further samples are not taken\n",

@@ -39,7 +39,7 @@ struct Turn {
 }
 
 // Feeds samples until all are taken or V is at its end, and prints the lines of their records while none was lost.
-fn feed_all(logger: Logger, samples: &[i16]) -> Turn
+fn feed_all(rt: HostRuntime, logger: Logger, samples: &[i16]) -> Turn
     requires { ValidState logger.state }
     ensures { (result.fed ≡ fed_all_from logger samples.now) × ValidState result.fed.logger.state }
 {
@@ -53,7 +53,7 @@ fn feed_all(logger: Logger, samples: &[i16]) -> Turn
         let fed = held.feed(&samples[at..], &mut records);
         let told = fed.told;
         let end = event_lines::put_lines(&mut text, &records, told.written);
-        printed = event_lines::print(&NAME, printed, &text[..end]);
+        printed = event_lines::print(rt, &NAME, printed, &text[..end]);
         held = fed.logger;
         at += told.taken;
         why = told.why;
@@ -65,7 +65,7 @@ fn feed_all(logger: Logger, samples: &[i16]) -> Turn
 }
 
 // Feeds the samples of a chunk; a last odd byte is none.
-fn feed_chunk(logger: Logger, bytes: &[u8]) -> Turn
+fn feed_chunk(rt: HostRuntime, logger: Logger, bytes: &[u8]) -> Turn
     requires { ValidState logger.state × (length bytes.now ≤ 8192) }
     ensures { (result.fed ≡ fed_all_from logger (samples_of bytes.now)) × ValidState result.fed.logger.state }
 {
@@ -74,15 +74,16 @@ fn feed_chunk(logger: Logger, bytes: &[u8]) -> Turn
     let mut space = [0i16; CHUNK];
     let samples: &mut [i16] = &mut space[..count];
     samples::decode(&bytes[..even], samples);
-    feed_all(logger, samples)
+    feed_all(rt, logger, samples)
 }
 
 // Prints and tells what the samples leave.
-fn finish(logger: Logger, why: u32)
+fn finish(rt: HostRuntime, logger: Logger, why: u32)
     requires { ValidState logger.state }
 {
     let readings = logger.look();
     event_lines::finish(
+        rt,
         &NAME,
         Ending {
             count: readings.count,
@@ -96,32 +97,32 @@ fn finish(logger: Logger, why: u32)
 }
 
 // Feeds a fresh logger to the end of the input or of V, and prints. Where something fails it prints no more: a text without its last line is not whole.
-fn log(settings: Settings)
+fn log(rt: HostRuntime, settings: Settings)
     requires { ValidSettings settings }
 {
-    let mut good = event_lines::print_heading(&NAME);
+    let mut good = event_lines::print_heading(rt, &NAME);
     let mut logger = Logger::fresh(settings);
     let mut bytes = [0u8; CHUNK_BYTES];
     let mut why = 0;
     let mut more = good;
     while more {
-        let got = event_lines::read(&NAME, &mut bytes);
+        let got = event_lines::read(rt, &NAME, &mut bytes);
         let count = got.count;
-        let turn = feed_chunk(logger, &bytes[..count]);
+        let turn = feed_chunk(rt, logger, &bytes[..count]);
         let fed = turn.fed;
         logger = fed.logger;
         why = fed.why;
-        good = turn.printed & !got.failed;
+        good = turn.printed & got.failed.is_none();
         more = event_lines::goes_on(good, count, CHUNK_BYTES, why);
     }
     if good {
-        finish(logger, why);
+        finish(rt, logger, why);
     }
 }
 
-fn main() {
-    let begun = event_lines::begin(&NAME);
+fn main(rt: HostRuntime) {
+    let begun = event_lines::begin(rt, &NAME);
     if let Begun::With(settings) = begun {
-        log(settings);
+        log(rt, settings);
     }
 }

@@ -7,7 +7,6 @@ ghost use Rattle.reading.specs.Layout.{image_length};
 
 use bodies::IMAGE_LENGTH;
 use detection::Detector;
-use libc::{STDIN_FILENO, STDOUT_FILENO};
 use rms::Gatherer;
 use settings::Settings;
 use state::State;
@@ -68,13 +67,13 @@ fn change(image: &mut [u8], offset: usize, width: usize, bytes: &[u8])
     }
 }
 
-fn print(number: u64) {
-    io::print_decimal(STDOUT_FILENO, number);
-    io::write_all(STDOUT_FILENO, b"\n");
+fn print(rt: HostRuntime, number: u64) {
+    call_items::print_decimal(rt, number);
+    call_items::end_line(rt);
 }
 
 // One vector: the image's length, an offset, how many bytes change there (128 more where further changes follow), and up to 8 bytes.
-fn try_vector(good: &[u8], image: &mut [u8], vector: &[u8])
+fn try_vector(rt: HostRuntime, good: &[u8], image: &mut [u8], vector: &[u8])
     requires { (length good.now ≡ image_length) × (length vector.now ≡ 14) }
 {
     let length = octets::get_u16(vector, 0) as usize;
@@ -82,23 +81,24 @@ fn try_vector(good: &[u8], image: &mut [u8], vector: &[u8])
     let width = octets::get_u16(vector, 4) as usize;
     change(image, offset, width % 16 % 9, &vector[6..14]);
     if width < 128 {
-        print(refusal_of(image, length));
+        print(rt, refusal_of(image, length));
         change(image, 0, IMAGE_LENGTH, good);
     }
 }
 
-fn main() {
+fn main(rt: HostRuntime) {
     let mut good = [0u8; IMAGE_LENGTH];
-    io::read_full(STDIN_FILENO, &mut good);
+    streams::read_full(&mut rt.stdin(), &mut good);
     let mut image = [0u8; IMAGE_LENGTH + 20];
     change(&mut image, 0, IMAGE_LENGTH, &good);
     let mut vector = [0u8; 14];
     let mut left: u32 = 100_000;
     while 0 < left {
-        if io::read_full(STDIN_FILENO, &mut vector) < 14 {
+        let got = streams::read_full(&mut rt.stdin(), &mut vector);
+        if got.count < 14 {
             return;
         }
-        try_vector(&good, &mut image, &vector);
+        try_vector(rt, &good, &mut image, &vector);
         left -= 1;
     }
 }
