@@ -1,0 +1,11 @@
+-- The logger is valid. The measure: the samples that are left to V's end while there is more, for a whole chunk that is taken lowers them.
+use Rattle.greedy.specs.AllFedLaws.{left_while}
+use Rattle.three_state.specs.ThreeState.{ValidThree}
+use Rattle.event_log_three.specs.ThreeFedAllLaws.{left}
+use Rattle.event_log_three.proofs.log.Given as goal
+
+abbrev pub invariant-loop-more : goal.invariant-loop-more
+invariant-loop-more l = ValidThree l.logger.state
+
+abbrev pub decreases-loop-more : goal.decreases-loop-more
+decreases-loop-more l = left_while left l.more l.logger.state
