@@ -1,11 +1,10 @@
 -- A gatherer stays valid, sample by sample and by the parts that the cut gives.
-use Rattle.std.specs.Prelude.{◌≡◌, refl, Bool, true, false, List, [], ◌∷◌, ℕ, ◌+◌, ◌-◌, ◌*◌, ◌^◌, ◌≤◌, ◌<◌, length, take, drop, ℤ, pos, negsuc}
+use Rattle.std.specs.Prelude.{◌≡◌, refl, Bool, true, false, List, [], ◌∷◌, ℕ, ◌+◌, ◌-◌, ◌*◌, ◌^◌, ◌≤◌, ◌<◌, length, take, drop, ℤ, pos, negsuc, if◌then◌else◌}
 use Rattle.std.proofs.Common.{sym, ◌∙◌, ap, subst, arith, length-take, length-drop}
 use lib.Signed.{mag}
 use mir.Syntax.{w16}
 use mir.Val.{to_z, of_z}
 use mir.ValLaws.{to_z-of_z}
-use Rattle.numbers.specs.Notation.{if◌then◌else◌}
 use Rattle.reading.specs.Values.{Sample, squares}
 use Rattle.reading_laws.specs.RecordingsLaws.{squares-le}
 use Rattle.rms.specs.declared.Part.{Part}
