@@ -1,5 +1,5 @@
 -- An item of standard input, and bytes in base sixteen.
-use Rattle.std.specs.Prelude.{◌≡◌, Bool, List, [], ◌∷◌, ◌++◌, ℕ, ◌+◌, ◌-◌, ◌/◌, ◌%◌, ◌≤◌, length, take, drop, get_or, if◌then◌else◌}
+use Rattle.std.specs.Prelude.{◌≡◌, Bool, MatchBool, List, [], ◌∷◌, ◌++◌, ℕ, ◌+◌, ◌-◌, ◌/◌, ◌%◌, ◌≤◌, length, take, drop, get_or, if◌then◌else◌}
 use Rattle.numbers.specs.Notation.{◌<ᵇ◌}
 use Rattle.octets.specs.Bytes.{number_of}
 use Rattle.call_items.specs.declared.Item.{Item}
@@ -21,7 +21,7 @@ pub record NextItem (before : List ℕ) (item : Item) (after : List ℕ) : Type 
   pub whole : Bool
   pub head-long : length head ≡ 6
   pub following-long : length following ≤ 65535
-  pub item-is : if whole then (item ≡ item_of head) × (length following ≡ item.length) else (item ≡ no_item)
+  pub item-is : MatchBool whole ((item ≡ item_of head) × (length following ≡ item.length)) (item ≡ no_item)
   pub bytes-are : after ≡ following ++ drop (length following) before
 
 -- a digit, in ASCII

@@ -1,5 +1,5 @@
 -- The ways out of `next_item`; and lists that are written from their start: one byte more that is the same as the others, and one more in base sixteen.
-use Rattle.std.specs.Prelude.{◌≡◌, refl, Bool, false, List, [], ◌∷◌, ◌++◌, ℕ, suc, ◌+◌, ◌-◌, ◌*◌, ◌/◌, ◌%◌, ◌≤◌, ◌<◌, length, take, drop, get_or, set, replicate, if◌then◌else◌}
+use Rattle.std.specs.Prelude.{◌≡◌, refl, Bool, false, MatchBool, List, [], ◌∷◌, ◌++◌, ℕ, suc, ◌+◌, ◌-◌, ◌*◌, ◌/◌, ◌%◌, ◌≤◌, ◌<◌, length, take, drop, get_or, set, replicate}
 use Rattle.std.proofs.Common.{sym, ◌∙◌, ap, ap₂, append-nil, append_assoc, arith, add-one, length-append, drop_of_length-le, drop-cons, take-suc, take_all, length-take-le, lt-ltb, le-ltb}
 use Rattle.std.proofs.lemmas.List.{length-replicate, replicate-append-replicate, set_at}
 use Rattle.std.proofs.Math.Seq.{append_snoc}
@@ -14,7 +14,7 @@ no-head none =
 -- so many bytes are read behind the head, or some of them
 pub item-read : (before head following : List ℕ) (k : ℕ) (whole : Bool) {item : Item} → length head ≡ 6
     → length following ≡ length (take k before) → k ≤ length before → k ≤ 65535
-    → (length following ≡ k → if whole then (item ≡ item_of head) × (length following ≡ item.length) else (item ≡ no_item))
+    → (length following ≡ k → MatchBool whole ((item ≡ item_of head) × (length following ≡ item.length)) (item ≡ no_item))
     → NextItem before item (following ++ drop k before)
 item-read before head following k whole six taken room most is =
     let long : length following ≡ k = taken ∙ length-take-le k before room in
