@@ -15,7 +15,7 @@ loop-share-preserved c =
     let samples = c.args.samples.now in
     let end = loop.at + loop.share.count in
     let valid =
-        half-valid _ _ _ _ _ _ loop.invariant c.with_half-gatherer.result c.sum_squares-part.result c.sum_squares-part.ensures c.with_half-gatherer.ensures
+    half-valid _ _ _ _ _ _ loop.invariant c.with_half-gatherer.result c.sum_squares-part.result c.sum_squares-part.ensures c.with_half-gatherer.ensures
     in
     parting c.args.half_length samples c.with_half-gatherer.result (loop.halves + 1) end _ c.cut-share-in-loop-share.result valid
     (let some = loop.invariant.some c.loop-share-test.true in omega arith) (omega arith) (simp (length-take, length-drop) (omega arith)) c.cut-share-in-loop-share.ensures

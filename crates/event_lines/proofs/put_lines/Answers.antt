@@ -8,5 +8,5 @@ loop-i-preserved c = record {
   inside = omega arith;
   room = omega arith;
   put = lines_next c.args.records.now c.args.text.now c.loop-i.text c.put_line-at.new.text c.loop-i.i c.loop-i.at c.put_line-at.result _
-    c.loop-i.invariant.put c.get_record-event.ensures c.put_line-at.ensures.put;
+      c.loop-i.invariant.put c.get_record-event.ensures c.put_line-at.ensures.put;
 }

@@ -12,8 +12,8 @@ put_lines-end-requires c =
     let loop = c.loop-why in
     let told = c.told_of-told in
     let turn =
-        fed-turn c.args.samples.now loop.at _ _ c.feed-fed.result.answer c.feed-fed.ensures.0 c.requires.1 loop.invariant.place loop.invariant.inside
-        told.result told.ensures
+    fed-turn c.args.samples.now loop.at _ _ c.feed-fed.result.answer c.feed-fed.ensures.0 c.requires.1 loop.invariant.place loop.invariant.inside
+    told.result told.ensures
     in
     (omega (arith, turn.fits), omega (arith, turn.fits))
 
@@ -22,8 +22,8 @@ overflow_add-at c =
     let loop = c.loop-why in
     let told = c.told_of-told in
     let turn =
-        fed-turn c.args.samples.now loop.at _ _ c.feed-fed.result.answer c.feed-fed.ensures.0 c.requires.1 loop.invariant.place loop.invariant.inside
-        told.result told.ensures
+    fed-turn c.args.samples.now loop.at _ _ c.feed-fed.result.answer c.feed-fed.ensures.0 c.requires.1 loop.invariant.place loop.invariant.inside
+    told.result told.ensures
     in
     omega (arith, turn.inside)
 
@@ -33,8 +33,8 @@ loop-why-smaller c =
     let loop = c.loop-why in
     let told = c.told_of-told in
     let turn =
-        fed-turn samples loop.at _ _ c.feed-fed.result.answer c.feed-fed.ensures.0 c.requires.1 loop.invariant.place loop.invariant.inside
-        told.result told.ensures
+    fed-turn samples loop.at _ _ c.feed-fed.result.answer c.feed-fed.ensures.0 c.requires.1 loop.invariant.place loop.invariant.inside
+    told.result told.ensures
     in
     subst⁻¹ (λ (why : ℕ). to_feed (triples_of samples) ((loop.at + told.result.taken) / 3) told.result.why < to_feed (triples_of samples) (loop.at / 3) why)
     c.loop-why-test.true (turn.less (omega arith))
@@ -45,8 +45,8 @@ loop-why-preserved c =
     let loop = c.loop-why in
     let told = c.told_of-told in
     let turn =
-        fed-turn samples loop.at _ _ c.feed-fed.result.answer c.feed-fed.ensures.0 c.requires.1 loop.invariant.place loop.invariant.inside
-        told.result told.ensures
+    fed-turn samples loop.at _ _ c.feed-fed.result.answer c.feed-fed.ensures.0 c.requires.1 loop.invariant.place loop.invariant.inside
+    told.result told.ensures
     in
     record {
       valid = c.feed-fed.ensures.1;
