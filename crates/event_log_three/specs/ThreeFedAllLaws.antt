@@ -31,7 +31,7 @@ use Rattle.three_logger.specs.declared.ThreeLogger.{ThreeLogger}
 use Rattle.three_logger.specs.declared.FeedAnswer.{FeedAnswer}
 use Rattle.three_logger.specs.declared.FeedAnswer.TheVariants.{Taken, Refused}
 use Rattle.three_logger.specs.Logger.{answer_told, three_fed_to, in_samples, three_fed}
-use Rattle.three_logger.specs.FeedLaws.{feed-fed}
+use Rattle.three_logger.proofs.FeedLaws.{feed-fed}
 use Rattle.event_log_three.specs.declared.FedAll.{FedAll}
 use Rattle.event_log_three.specs.ThreeFedAll.{told_in, fed_all_from}
 

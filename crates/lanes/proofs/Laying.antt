@@ -1,16 +1,9 @@
 -- A lane that is laid sample by sample: a sample as it is read and stored, and the places so far.
-use mathlib.Core.Path.{◌≡◌}
-use mathlib.Core.List.{List}
-use Prim.Native.Nat.{ℕ, ◌+◌, ◌^◌, ◌<◌}
-use native.Mathlib.Numerals.{add-one}
-use native.Mathlib.Omega.{arith}
+use Rattle.std.proofs.Common.{◌≡◌, List, ℕ, ◌+◌, ◌^◌, ◌<◌, add-one, arith, ℤ, pos, length, take, set, length-set, take_all, take-suc, take-suc-set}
 use mir.Syntax.{w16}
 use mir.Val.{to_z, of_z}
 use mir.ValLaws.{to_z-of_z}
 use lib.Signed.{mag}
-use lib.IntN.{ℤ, pos}
-use lib.ListN.{length, take, set, length-set}
-use lib.Seq.{take_all, take-suc, take-suc-set}
 use Rattle.lanes.specs.LanesLaws.{sample_at}
 
 -- a sample is signed, and goes by its bits

@@ -1,6 +1,5 @@
 -- Each way out returns the sample whose turn it is.
-use mathlib.Core.Path.{◌≡◌}
-use native.Mathlib.Omega.{arith}
+use Rattle.std.proofs.Common.{◌≡◌, arith}
 use mir.Syntax.{w16}
 use mir.ValLaws.{to_z-of_z}
 use Rattle.lanes.proofs.chosen.Goals as goal

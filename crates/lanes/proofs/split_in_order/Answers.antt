@@ -1,9 +1,4 @@
-use mathlib.Core.Path.{◌≡◌, refl, sym}
-use mathlib.Core.List.{List}
-use Prim.Native.Nat.{ℕ, ◌+◌, ◌-◌, ◌*◌, ◌<◌}
-use native.Mathlib.Omega.{arith}
-use lib.IntN.{ℤ}
-use lib.ListN.{length, set}
+use Rattle.std.proofs.Common.{◌≡◌, refl, sym, List, ℕ, ◌+◌, ◌-◌, ◌*◌, ◌<◌, arith, ℤ, length, set}
 use Rattle.three_reading.specs.Three.{triples_of, Channel, at, channel}
 use Rattle.three_reading.specs.Three.Channel.{on_a, on_b, on_c}
 use Rattle.lanes.specs.LanesLaws.{triple_at, channel-at, length-channel_of}

@@ -1,8 +1,5 @@
 -- The cut goes by the number of samples alone, and a channel has as many as there are triples.
-use mathlib.Core.Path.{◌≡◌, sym, ◌∙◌}
-use Prim.Native.Nat.{◌/◌}
-use native.Mathlib.Omega.{arith}
-use lib.ListN.{length, take, length-take}
+use Rattle.std.proofs.Common.{◌≡◌, sym, ◌∙◌, ◌/◌, arith, length, take, length-take}
 use Rattle.rms.specs.CutLaws.{cut-length}
 use Rattle.three_reading.specs.Three.{triples_of, channel}
 use Rattle.three_reading.specs.Three.Channel.{on_a}

@@ -1,11 +1,6 @@
 -- The claim of three phases, proved. What the caller keeps is read from the three recordings (`caller_of`); each call keeps it so and gives the engineer's answer;
 -- and so, call by call, over every list.
-use Rattle.std.specs.Prelude.{◌≡◌, refl, drop, ℤ}
-use Rattle.std.proofs.Math.Path.{sym, ap, subst}
-use Rattle.std.proofs.Common.{◌∙◌, arith, take_at}
-use mathlib.Core.List.{List, [], ◌∷◌, ◌++◌, append-nil}
-use Prim.Native.Nat.{ℕ, zero, suc, ◌*◌, ◌<◌}
-use Rattle.std.proofs.Math.ListN.{length, take}
+use Rattle.std.proofs.Common.{◌≡◌, refl, drop, ℤ, sym, ap, subst, ◌∙◌, arith, take_at, List, [], ◌∷◌, ◌++◌, append-nil, ℕ, zero, suc, ◌*◌, ◌<◌, length, take}
 use Rattle.numbers.specs.Answers.{Answered}
 use Rattle.numbers.specs.Answers.Answered.{accepted, refused}
 use Rattle.settings.specs.declared.Settings.{Settings}

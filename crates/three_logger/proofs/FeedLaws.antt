@@ -1,7 +1,5 @@
 -- Feed's ways out, over plain variables: a block that is refused and one that is fed; and what it takes is within the block.
-use Rattle.std.specs.Prelude.{◌≡◌, ◌≢◌, Bool, List, ℕ, ◌*◌, ◌%◌, ◌≤◌, length, ℤ, if◌then◌else◌}
-use Rattle.std.proofs.Math.Path.{sym}
-use Rattle.std.proofs.Common.{◌∙◌, ap, arith, eq-eqb, ne_eqb}
+use Rattle.std.proofs.Common.{if◌then◌else◌, ◌≡◌, ◌≢◌, Bool, List, ℕ, ◌*◌, ◌%◌, ◌≤◌, length, ℤ, sym, ◌∙◌, ap, arith, eq-eqb, ne_eqb}
 use Rattle.numbers.specs.Answers.Answered.{accepted, refused}
 use Rattle.reading.specs.Calls.{Outcome}
 use Rattle.three_reading.specs.Three.{triples_of}
