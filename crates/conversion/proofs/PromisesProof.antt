@@ -31,9 +31,9 @@ use Rattle.image.specs.PassedLaws.{Passed, passes-all, accepts-passed}
 use Rattle.conversion.specs.Conversion.{converted_to, fits, good_row, all_rows, rows_in, records_as, image_as, image_fits}
 use Rattle.conversion.specs.Conversion.{records_refusal, image_refusal, image_converted}
 use Rattle.conversion.specs.WidthsLaws.{fit_length, fit-by-test}
-use Rattle.conversion.specs.RecordsLaws.{records-there-and-back, forth-fits, records-accepted}
+use Rattle.conversion.proofs.RecordsLaws.{records-there-and-back, forth-fits, records-accepted}
 use Rattle.conversion.specs.ImageAsLaws.{sections-as, same-gatherer, same-values, same-events, other-passed, image_as-again}
-use Rattle.conversion.specs.ImageConvertedLaws.{all-good, body-fit, image-fits, values-hold, values-wider, events-wider, events-hold, count-outside}
+use Rattle.conversion.proofs.ImageConvertedLaws.{all-good, body-fit, image-fits, values-hold, values-wider, events-wider, events-hold, count-outside}
 use Rattle.conversion.specs.Promises.{Promises}
 
 -- an image that converts: its edition's restore accepts it, and the other's widths hold its numbers

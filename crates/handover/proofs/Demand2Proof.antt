@@ -24,8 +24,8 @@ use Rattle.image.specs.Image.{image_bytes, save_answer, saved_bytes}
 use Rattle.image.specs.ImageLaws.{length-image_bytes, restored_by-saved, state_at-valid, image_bytes-state_at}
 use Rattle.logger.specs.Logger.{saved_to}
 use Rattle.logger.specs.Calls.{logger_calls}
-use Rattle.logger.specs.CallsLaws.{restore-accepted}
-use Rattle.handover.specs.ClaimProof.{take-over}
+use Rattle.logger.proofs.CallsLaws.{restore-accepted}
+use Rattle.handover.proofs.ClaimProof.{take-over}
 use Rattle.handover.specs.Demand2.{FedMost, trial_into, Demand2}
 
 -- a save into a buffer that is long enough

@@ -16,7 +16,7 @@ use Rattle.records.specs.ListLaws.{RecordsFitWith}
 use Rattle.conversion.specs.Conversion.{converted_to, room_refusal, fits, first_rows, rows_in, rows_bytes, all_rows, good_row, records_as}
 use Rattle.conversion.specs.Conversion.{records_refusal, records_converted}
 use Rattle.conversion.specs.WidthsLaws.{fit_length, fit-by-test, fit-passes, wider-record, fit-wider}
-use Rattle.conversion.specs.RowsLaws.{length-positive, first_row, behind, rows_next, rows_none, length-rows_in, length-records_as, all-converted}
+use Rattle.conversion.proofs.RowsLaws.{length-positive, first_row, behind, rows_next, rows_none, length-rows_in, length-records_as, all-converted}
 
 -- rows that the records of an edition hold
 abbrev pub RowsFit : ℕ → List (List ℕ) → Type 0
