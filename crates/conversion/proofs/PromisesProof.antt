@@ -20,7 +20,7 @@ use Rattle.reading.specs.Engineer.{over}
 use Rattle.state.specs.declared.State.{State}
 use Rattle.reading_laws.specs.RecordingsLaws.{length-history}
 use Rattle.state.specs.State.{state_with, state_of, ValidState}
-use Rattle.state.specs.StepValid.{state_of-valid}
+use Rattle.state.proofs.StepValid.{state_of-valid}
 use Rattle.bodies.specs.Bodies.{gatherer_from, detector_from}
 use Rattle.bodies.specs.BodiesLaws.{values-fit, detector-fits}
 use Rattle.image.specs.Image.{state_at_with, restored_from, restored_by}

@@ -28,11 +28,11 @@ use Rattle.reading_laws.specs.PastLaws.{past-grows}
 use Rattle.reading_laws.specs.CompletedLaws.{records-completed}
 use Rattle.records.specs.DueLaws.{length-record_bytes, record_bytes-append}
 use Rattle.greedy.specs.Greedy.{Run, outcome_of}
-use Rattle.greedy.specs.GreedyFollows.{Recording, fed_by-follows, recording-fed}
+use Rattle.greedy.proofs.GreedyFollows.{Recording, fed_by-follows, recording-fed}
 use Rattle.state.specs.declared.State.{State}
 use Rattle.state.specs.State.{fresh, state_of}
-use Rattle.state.specs.StepFollows.{steps_of, fresh-is, readings-of, halves-none}
-use Rattle.state.specs.StepValid.{state_of-valid, recording-none}
+use Rattle.state.proofs.StepFollows.{steps_of, fresh-is, readings-of, halves-none}
+use Rattle.state.proofs.StepValid.{state_of-valid, recording-none}
 use Rattle.state.specs.Calls.{fed_with}
 use Rattle.image.specs.Image.{image_bytes, save_answer, saved_bytes, restored_by}
 use Rattle.image.specs.ImageLaws.{length-image_bytes, restored_by-saved, restored_by-refused}

@@ -13,13 +13,13 @@ use Rattle.reading.specs.Layout.{record_length, image_length}
 use Rattle.reading_laws.specs.TakenLaws.{greatest_to-passes, greatest_to-most, greatest_to-le}
 use Rattle.records.specs.DueLaws.{length-record_bytes}
 use Rattle.greedy.specs.Greedy.{Run, fed_by, outcome_of, due_over, walked_by, allowed_by, why_by}
-use Rattle.greedy.specs.GreedyLaws.{fed_by-less}
-use Rattle.greedy.specs.GreatestLaws.{fed_by-greatest}
+use Rattle.greedy.proofs.GreedyLaws.{fed_by-less}
+use Rattle.greedy.proofs.GreatestLaws.{fed_by-greatest}
 use Rattle.state.specs.declared.State.{State}
 use Rattle.state.specs.State.{readings_of, ValidState}
 use Rattle.state.specs.Step.{machine}
 use Rattle.state.specs.Calls.{fed_with}
-use Rattle.state.specs.CallsLaws.{takes-some}
+use Rattle.state.proofs.CallsLaws.{takes-some}
 use Rattle.image.specs.Image.{image_bytes, save_answer, saved_bytes}
 use Rattle.image.specs.ImageLaws.{length-image_bytes, restored_by-saved, state_at-valid, image_bytes-state_at}
 use Rattle.logger.specs.Logger.{saved_to}

@@ -10,8 +10,8 @@ use Rattle.rms.specs.declared.Share.{Share}
 use Rattle.rms.specs.Gather.{cut, PartFits}
 use Rattle.rms.specs.CutLaws.{Within, cut-within}
 use Rattle.greedy.specs.Greedy.{fed_by}
-use Rattle.greedy.specs.CutterLaws.{taken-if, feed-taken, feed-stops, feed-rest}
-use Rattle.greedy.specs.ProgressLaws.{Progress, progress-none, progress-more, progress-last, part-long, lent-behind, back-behind}
+use Rattle.greedy.proofs.CutterLaws.{taken-if, feed-taken, feed-stops, feed-rest}
+use Rattle.greedy.proofs.ProgressLaws.{Progress, progress-none, progress-more, progress-last, part-long, lent-behind, back-behind}
 use Rattle.three_reading.specs.Three.{Three, Channel, at, triples_of, channel}
 use Rattle.three_reading.specs.Three.Channel.{on_a, on_b, on_c}
 use Rattle.three_laws.specs.ChannelLaws.{length-channel}

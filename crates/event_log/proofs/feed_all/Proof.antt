@@ -7,7 +7,7 @@ use lib.ListN.{length}
 use lib.Seq.{length-take-le}
 use borrow.Author.Rules.{rules}
 use Rattle.greedy.specs.AllFed.{fed_all_by}
-use Rattle.greedy.specs.AllFedLaws.{to_feed, rest_by, rest-none}
+use Rattle.greedy.proofs.AllFedLaws.{to_feed, rest_by, rest-none}
 use Rattle.state.specs.State.{ValidState}
 use Rattle.state.specs.Step.{machine}
 use Rattle.event_log.specs.FedAllLaws.{fed-turn}

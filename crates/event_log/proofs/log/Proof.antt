@@ -5,7 +5,7 @@ use mathlib.Core.Bool.{Bool, ◌&&◌, not}
 use Prim.Native.Nat.{◌<◌}
 use lib.ListN.{length}
 use borrow.Author.Rules.{rules}
-use Rattle.greedy.specs.AllFedLaws.{left_while}
+use Rattle.greedy.proofs.AllFedLaws.{left_while}
 use Rattle.state.specs.State.{ValidState}
 use Rattle.event_log.specs.FedAllLaws.{left, bytes-fall}
 use Rattle.event_log.proofs.log.Statement.{statement}

@@ -7,7 +7,7 @@ use lib.ListN.{length}
 use lib.Seq.{length-take-le}
 use borrow.Author.Rules.{rules}
 use Rattle.greedy.specs.AllFed.{fed_all_by}
-use Rattle.greedy.specs.AllFedLaws.{to_feed, rest_by, rest-none}
+use Rattle.greedy.proofs.AllFedLaws.{to_feed, rest_by, rest-none}
 use Rattle.three_reading.specs.Three.{triples_of}
 use Rattle.three_state.specs.ThreeState.{ValidThree}
 use Rattle.three_state.specs.ThreeStep.{three_machine}

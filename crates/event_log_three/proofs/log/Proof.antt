@@ -5,7 +5,7 @@ use mathlib.Core.Bool.{Bool, ◌&&◌, not}
 use Prim.Native.Nat.{◌<◌}
 use lib.ListN.{length}
 use borrow.Author.Rules.{rules}
-use Rattle.greedy.specs.AllFedLaws.{left_while}
+use Rattle.greedy.proofs.AllFedLaws.{left_while}
 use Rattle.three_state.specs.ThreeState.{ValidThree}
 use Rattle.event_log_three.specs.ThreeFedAllLaws.{left, bytes-fall}
 use Rattle.event_log_three.proofs.log.Statement.{statement}

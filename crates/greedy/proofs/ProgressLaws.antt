@@ -13,7 +13,7 @@ use Rattle.reading.specs.Engineer.{over, room}
 use Rattle.reading.specs.Layout.{record_length}
 use Rattle.records.specs.DueLaws.{placed-records}
 use Rattle.greedy.specs.Greedy.{Machine, Run, joined, fed_by, outcome_of, fed_into}
-use Rattle.greedy.specs.GreedyLaws.{Bounded, and_then, joined-joined, fed_by-append, fed_by-bounded}
+use Rattle.greedy.proofs.GreedyLaws.{Bounded, and_then, joined-joined, fed_by-append, fed_by-bounded}
 
 -- a part of a block; what is behind place k, lent and back
 pub part-long : {A : Type 0} (at n : ℕ) (block : List A) → at + n ≤ length block → length (take n (drop at block)) ≡ n

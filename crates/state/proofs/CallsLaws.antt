@@ -3,11 +3,11 @@ use Rattle.std.specs.Prelude.{List, ◌∷◌, [], ℕ, ◌≤◌, ◌<◌, leng
 use Rattle.reading.specs.Feed.{last_value}
 use Rattle.reading.specs.Engineer.{room}
 use Rattle.rms.specs.Gather.{part_of}
-use Rattle.greedy.specs.CutterLaws.{sample-due, sample-within}
-use Rattle.greedy.specs.ToldLaws.{ToldWithin, takes_one, told-within}
+use Rattle.greedy.proofs.CutterLaws.{sample-due, sample-within}
+use Rattle.greedy.proofs.ToldLaws.{ToldWithin, takes_one, told-within}
 use Rattle.state.specs.declared.State.{State}
 use Rattle.state.specs.Step.{cutter, machine}
-use Rattle.state.specs.StepValid.{half_due-most, within_end_lem}
+use Rattle.state.proofs.StepValid.{half_due-most, within_end_lem}
 use Rattle.state.specs.Calls.{fed_with}
 
 -- one sample has at most four records due

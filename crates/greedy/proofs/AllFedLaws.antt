@@ -18,8 +18,8 @@ use Rattle.rms.specs.declared.Part.{Part}
 use Rattle.rms.specs.Gather.{part_of, with_part, with_half, ends_with}
 use Rattle.rms.specs.CutLaws.{next-below}
 use Rattle.greedy.specs.Greedy.{Machine, Run, fed_by, fed_into}
-use Rattle.greedy.specs.GreedyLaws.{by_first}
-use Rattle.greedy.specs.ToldLaws.{ToldWithin}
+use Rattle.greedy.proofs.GreedyLaws.{by_first}
+use Rattle.greedy.proofs.ToldLaws.{ToldWithin}
 use Rattle.greedy.specs.AllFed.{AllFed, fed_all_by}
 
 -- the samples left to feed, and one more while there is a feed to come

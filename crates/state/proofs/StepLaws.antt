@@ -10,7 +10,7 @@ use Rattle.rms.specs.Gather.{part_of}
 use Rattle.rms.specs.CutLaws.{cut-none, next-below, cut-cons, cut-within}
 use Rattle.rms.specs.GatherLaws.{none-joins, part-adds, half-adds, value-adds}
 use Rattle.detection.specs.Detection.{due_at}
-use Rattle.greedy.specs.CutterLaws.{Cuts}
+use Rattle.greedy.proofs.CutterLaws.{Cuts}
 use Rattle.state.specs.declared.State.{State}
 use Rattle.state.specs.Step.{with_value, with_values, due_on, with_gatherer, part_joined, value_out, passes_end, half_due, half_joined, cutter}
 

@@ -8,7 +8,7 @@ use Rattle.reading.specs.declared.Told.{Told}
 use Rattle.reading.specs.Engineer.{room}
 use Rattle.reading.specs.Layout.{record_length}
 use Rattle.greedy.specs.Greedy.{Machine, Run, fed_by, fed_into}
-use Rattle.greedy.specs.GreedyLaws.{fed_by-ends, fed_by-takes, fed_by-bounded}
+use Rattle.greedy.proofs.GreedyLaws.{fed_by-ends, fed_by-takes, fed_by-bounded}
 
 -- of a block and a lent buffer, where one sample has at most k records due
 pub record ToldWithin (k : ℕ) {X : Type 0} (block : List X) (lent : List ℕ) (t : Told) : Type 0 where

@@ -11,7 +11,7 @@ use Rattle.numbers.specs.Notation.{◌≤ᵇ◌, ◌<ᵇ◌, ◌≡ᵇ◌}
 use Rattle.reading.specs.declared.Record.{Record}
 use Rattle.reading.specs.Feed.{greatest_to}
 use Rattle.greedy.specs.Greedy.{Machine, Run, stopped, joined, fed_by, walked_by, due_over, within_end_by, allowed_by, taken_by, why_by}
-use Rattle.greedy.specs.GreedyLaws.{fed_by-ends, fed_by-full, fed_by-takes}
+use Rattle.greedy.proofs.GreedyLaws.{fed_by-ends, fed_by-full, fed_by-takes}
 
 -- a search from the top, by what the test says of the first numbers
 greatest_to-suc : (test : ℕ → Bool) (n : ℕ) (b : Bool) → test (suc n) ≡ b → greatest_to test (suc n) ≡ elim b [ true ↦ suc n | false ↦ greatest_to test n ]

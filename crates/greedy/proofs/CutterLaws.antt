@@ -8,7 +8,7 @@ use Rattle.reading.specs.declared.Record.{Record}
 use Rattle.rms.specs.declared.Share.{Share}
 use Rattle.rms.specs.CutLaws.{one_more}
 use Rattle.greedy.specs.Greedy.{Machine, Run, stopped, joined, fed_by}
-use Rattle.greedy.specs.GreedyLaws.{fed_by-ends, fed_by-full, fed_by-takes}
+use Rattle.greedy.proofs.GreedyLaws.{fed_by-ends, fed_by-full, fed_by-takes}
 use Rattle.greedy.specs.Cutter.{Cutter, why_not_by, ends_half, machine_of}
 
 -- what the cut and the parts must be for it, of states within a half-cycle: the cut goes by one sample, and so does a part, whatever ends it

@@ -25,11 +25,11 @@ use Rattle.window.specs.Window.{window_of, Small, ValidWindow}
 use Rattle.window.specs.WindowValid.{pushed-valid, window_of-valid}
 use Rattle.detection.specs.Detection.{detector_after}
 use Rattle.detection.specs.DetectionValid.{detector_after-valid, due-most, detector_of-valid}
-use Rattle.greedy.specs.GreedyFollows.{Recording}
+use Rattle.greedy.proofs.GreedyFollows.{Recording}
 use Rattle.state.specs.declared.State.{State}
 use Rattle.state.specs.State.{fresh, state_of, ValidState}
 use Rattle.state.specs.Step.{with_value, with_values, due_on, with_gatherer, part_joined, value_out, passes_end, half_due, half_joined}
-use Rattle.state.specs.StepFollows.{halves-none, fresh-is}
+use Rattle.state.proofs.StepFollows.{halves-none, fresh-is}
 
 -- a value into a state
 with_value-valid : (x : Marked) (st : State) → x.value ≤ 524288 → st.gatherer.whole ≡ true → st.detector.count < last_value → ValidState st → ValidState (with_value x st)

@@ -15,8 +15,8 @@ use Rattle.reading_laws.specs.Past.{Past, completed_in, within_end_in, allowed_i
 use Rattle.reading_laws.specs.CompletedLaws.{completed-none, completed-add}
 use Rattle.reading_laws.specs.TakenLaws.{taken-within}
 use Rattle.greedy.specs.Greedy.{Machine, Run, stopped, joined, fed_by}
-use Rattle.greedy.specs.GreedyLaws.{fed_by-ends, fed_by-full, fed_by-takes}
-use Rattle.greedy.specs.GreatestLaws.{greatest_to-none, greatest_to-shift, leb-sub}
+use Rattle.greedy.proofs.GreedyLaws.{fed_by-ends, fed_by-full, fed_by-takes}
+use Rattle.greedy.proofs.GreatestLaws.{greatest_to-none, greatest_to-shift, leb-sub}
 
 -- what the engineer takes of a block that begins with x, by what x does
 module _ {X : Type 0} {P : Past X} (grows : Grows P) (rec : List X) (x : X) (xs : List X) where

@@ -34,7 +34,7 @@ use Rattle.rvc.specs.Phase.{phase_on}
 use Rattle.detection.specs.Detection.{no_value, due_at}
 use Rattle.detection.specs.DetectionFollows.{detector-follows, due-follows}
 use Rattle.greedy.specs.Cutter.{ends_half}
-use Rattle.greedy.specs.GreedyFollows.{StepsFollow}
+use Rattle.greedy.proofs.GreedyFollows.{StepsFollow}
 use Rattle.state.specs.declared.State.{State}
 use Rattle.state.specs.State.{fresh, state_with, state_on, state_of, phase_number_of, readings_of}
 use Rattle.state.specs.Step.{with_value, with_values, due_on, with_gatherer, part_joined, passes_end, half_due, half_joined, cutter, machine}
