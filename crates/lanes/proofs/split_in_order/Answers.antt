@@ -1,4 +1,4 @@
-use Rattle.std.proofs.Common.{◌≡◌, refl, sym, List, ℕ, ◌+◌, ◌-◌, ◌*◌, ◌<◌, arith, ℤ, length, set}
+use Rattle.std.proofs.Common.{◌≡◌, refl, sym, List, ℕ, ◌+◌, ◌-◌, ◌*◌, ◌<◌, arith, rules, ℤ, length, set}
 use Rattle.three_reading.specs.Three.{triples_of, Channel, at, channel}
 use Rattle.three_reading.specs.Three.Channel.{on_a, on_b, on_c}
 use Rattle.lanes.specs.LanesLaws.{triple_at, channel-at, length-channel_of}
@@ -27,9 +27,9 @@ loop-i-preserved c =
     let inside : l.i < n = omega arith in
     let block = c.args.block.now in (
       omega arith,
-      more on_a n l.i block l.invariant.1 refl c.requires.0 inside c.a-1.given,
-      more on_b n l.i block l.invariant.2 c.requires.1 c.requires.0 inside c.b-1.given,
-      more on_c n l.i block l.invariant.3 c.requires.2 c.requires.0 inside c.c-1.given,
+      more on_a n l.i block l.invariant.1 refl c.requires.0 inside (search rules),
+      more on_b n l.i block l.invariant.2 c.requires.1 c.requires.0 inside (search rules),
+      more on_c n l.i block l.invariant.3 c.requires.2 c.requires.0 inside (search rules),
     )
 
 pub returns : goal.returns
