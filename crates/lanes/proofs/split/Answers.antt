@@ -27,15 +27,6 @@ module _ (c : Channel) (n i : ℕ) (block : List ℤ) {before now : List ℤ} (l
       let lane = length-lane_in n block long c in
       laid-all (lane_in c n block) i l (omega arith) (omega arith)
 
-pub slice_bounds-first-end : goal.slice_bounds-first-end
-slice_bounds-first-end c = simp length-take (omega arith)
-
-pub loop-i-init : goal.loop-i-init
-loop-i-init c = (omega arith, record { same = refl; so_far = refl }, record { same = refl; so_far = refl }, record { same = refl; so_far = refl })
-
-pub bounds-first-i : goal.bounds-first-i
-bounds-first-i c = simp length-take (omega arith)
-
 pub loop-i-preserved : goal.loop-i-preserved
 loop-i-preserved c =
     let l = c.loop-i in

@@ -17,9 +17,6 @@ module _ (c : Channel) (n i : ℕ) (block : List ℤ) {before now : List ℤ} (l
   all : i ≡ n → now ≡ channel c (triples_of block)
   all h = laid-all (channel c (triples_of block)) i l (omega (arith, lane-long)) (omega (arith, lane-long))
 
-pub loop-i-init : goal.loop-i-init
-loop-i-init c = (omega arith, record { same = refl; so_far = refl }, record { same = refl; so_far = refl }, record { same = refl; so_far = refl })
-
 pub loop-i-preserved : goal.loop-i-preserved
 loop-i-preserved c =
     let l = c.loop-i in

@@ -7,9 +7,6 @@ use Rattle.three_laws.specs.ChannelLaws.{length-channel}
 use Rattle.three_laws.specs.TriplesLaws.{length-triples}
 use Rattle.three_feed.proofs.cut_of.Goals as goal
 
-pub slice_bounds-cut-end : goal.slice_bounds-cut-end
-slice_bounds-cut-end c = simp length-take (omega arith)
-
 pub returns : goal.returns
 returns c =
     let a = c.args in
