@@ -1,4 +1,4 @@
--- The bench readings are computed in `specs/ConversionBenchProof.antt`.
+-- The bench readings are computed in `proofs/ConversionBenchProof.antt`.
 use Rattle.conversion.proofs.ConversionBenchProof.{bench-holds}
 use Rattle.conversion.proofs.bench_readings.Goals as goal
 

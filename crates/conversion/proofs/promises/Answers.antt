@@ -1,4 +1,4 @@
--- The promises are proved in `specs/PromisesProof.antt`.
+-- The promises are proved in `proofs/PromisesProof.antt`.
 use Rattle.conversion.proofs.PromisesProof.{promises-hold}
 use Rattle.conversion.proofs.promises.Goals as goal
 

@@ -1,4 +1,4 @@
--- Demand 2 is proved in `specs/Demand2Proof.antt`.
+-- Demand 2 is proved in `proofs/Demand2Proof.antt`.
 use Rattle.handover.proofs.Demand2Proof.{demand2-holds}
 use Rattle.handover.proofs.demand2.Goals as goal
 

@@ -1,4 +1,4 @@
--- Demand 3 is proved in `specs/ClaimProof.antt`.
+-- Demand 3 is proved in `proofs/ClaimProof.antt`.
 use Rattle.handover.proofs.ClaimProof.{demand3-holds}
 use Rattle.handover.proofs.demand3.Goals as goal
 
