@@ -147,13 +147,7 @@ module _ {s : Settings} {ws₀ : Three (List ℕ)} {ms₀ : List ℕ} {block : L
   rest = drop from xs
 
   -- what is lent stays as long as it was
-  pub same-window : ValidThree st₀ → (c : Channel) → length (at c ws) ≡ length (at c ws₀)
-  same-window ok c = (inv.so_far.valid.window-valid c).size ∙ sym (ok.window-valid c).size
-
-  pub same-marks : ValidThree st₀ → length ms ≡ length ms₀
-  same-marks ok = inv.so_far.valid.marks-valid.size ∙ sym ok.marks-valid.size
-
-  pub same-records : (part : List ℕ) → length part ≡ length (take (length out - behind) (drop behind out)) →
+  same-records : (part : List ℕ) → length part ≡ length (take (length out - behind) (drop behind out)) →
       length (put_mid behind (length out - behind) out part) ≡ length lent
   same-records part kept = same_len_mid behind (length out - behind) out part kept ∙ inv.long
 
@@ -216,9 +210,6 @@ module _ {s : Settings} {ws₀ : Three (List ℕ)} {ms₀ : List ℕ} {block : L
 
     half-long : length half ≡ n
     half-long = part-long from n xs inv.share_in
-
-    pub part-ready : let own = take (3 * (from + n) - 3 * from) (drop (3 * from) block) in (length own % 3 ≡ 0) × (length own ≤ 768)
-    part-ready = let long = between-long n (from + n) refl inv.share_in in (omega arith, omega (arith, inv.share-most))
 
     pub stop-ready : let own = take (3 * (from + n - 1) - 3 * from) (drop (3 * from) block) in (length own % 3 ≡ 0) × RoomFor g (length own / 3)
     stop-ready =

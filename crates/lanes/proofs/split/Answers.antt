@@ -1,4 +1,5 @@
-use Rattle.std.proofs.Common.{◌≡◌, refl, sym, ◌∙◌, ap, List, ℕ, ◌+◌, ◌-◌, ◌*◌, ◌%◌, ◌<◌, arith, rules, ℤ, length, set, length-take}
+-- What a turn reads is small, and what it lays is the next place of each lane.
+use Rattle.std.proofs.Common.{◌≡◌, refl, sym, ◌∙◌, ap, List, ℕ, ◌+◌, ◌*◌, ◌%◌, ◌<◌, arith, rules, ℤ, length, set}
 use Rattle.three_reading.specs.Three.{Three, each, Channel}
 use Rattle.three_reading.specs.Three.Channel.{on_a, on_b, on_c}
 use Rattle.lanes.specs.Lanes.{lane_in}

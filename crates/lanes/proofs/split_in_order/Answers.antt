@@ -1,4 +1,5 @@
-use Rattle.std.proofs.Common.{◌≡◌, refl, sym, List, ℕ, ◌+◌, ◌-◌, ◌*◌, ◌<◌, arith, rules, ℤ, length, set}
+-- What a turn lays is the next place of each channel.
+use Rattle.std.proofs.Common.{◌≡◌, refl, sym, List, ℕ, ◌+◌, ◌*◌, ◌<◌, arith, rules, ℤ, length, set}
 use Rattle.three_reading.specs.Three.{triples_of, Channel, at, channel}
 use Rattle.three_reading.specs.Three.Channel.{on_a, on_b, on_c}
 use Rattle.lanes.specs.LanesLaws.{triple_at, channel-at, length-channel_of}
