@@ -29,10 +29,10 @@ def declares(text, word, name):
 
 
 def specs(name):
-    """The file of that name in the specs/ of reading, or else of the one crate that has it."""
-    crates = [crate for crate in CRATES if crate / f"specs/{name}.antt" in ALL]
-    crates = [crate for crate in crates if crate.name == "reading"] or crates
-    return read(f"{crates[0]}/specs/{name}.antt") if len(crates) == 1 else ""
+    """The file of that name in the specs/ of reading, or else in the specs/ or among the lemmas of the one crate that has it."""
+    files = [crate / f"{part}/{name}.antt" for crate in CRATES for part in ("specs", "proofs") if crate / f"{part}/{name}.antt" in ALL]
+    files = [file for file in files if file.parent.parent.name == "reading"] or files
+    return read(str(files[0])) if len(files) == 1 else ""
 
 
 def leads(code):

@@ -1,10 +1,5 @@
 pub mod Conversion
 pub mod WidthsLaws
-pub mod RowsLaws
-pub mod RecordsLaws
 pub mod ImageAsLaws
-pub mod ImageConvertedLaws
 pub mod Promises
-pub mod PromisesProof
 pub mod ConversionBench
-pub mod ConversionBenchProof

@@ -10,14 +10,14 @@ use Rattle.rms.specs.declared.Gatherer.{Gatherer}
 use Rattle.rms.specs.declared.Part.{Part}
 use Rattle.rms.specs.Gather.{part_of, with_half, value_with, value_from}
 use Rattle.detection.specs.Detection.{detector_after}
-use Rattle.greedy.specs.CutterLaws.{sample-leaves}
-use Rattle.greedy.specs.ProgressLaws.{lent-behind}
-use Rattle.greedy.specs.AllFedLaws.{Turn, turn, left_while, chunk-falls, left_to, InHalf, left-part, left-first, left-value}
+use Rattle.greedy.proofs.CutterLaws.{sample-leaves}
+use Rattle.greedy.proofs.ProgressLaws.{lent-behind}
+use Rattle.greedy.proofs.AllFedLaws.{Turn, turn, left_while, chunk-falls, left_to, InHalf, left-part, left-first, left-value}
 use Rattle.state.specs.declared.State.{State}
 use Rattle.state.specs.State.{ValidState}
 use Rattle.state.specs.Step.{with_values, with_gatherer, passes_end, half_joined, cutter, machine}
 use Rattle.state.specs.Calls.{fed_with}
-use Rattle.state.specs.CallsLaws.{fed_with-within}
+use Rattle.state.proofs.CallsLaws.{fed_with-within}
 use Rattle.logger.specs.declared.Logger.{Logger}
 use Rattle.logger.specs.Logger.{fed_to}
 use Rattle.event_log.specs.declared.FedAll.{FedAll}

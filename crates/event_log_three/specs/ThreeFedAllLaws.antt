@@ -12,10 +12,10 @@ use Rattle.reading.specs.Layout.{record_length}
 use Rattle.samples.specs.Samples.{samples_of}
 use Rattle.samples.specs.SamplesLaws.{length-samples, samples_of-take}
 use Rattle.rms.specs.declared.Gatherer.{Gatherer}
-use Rattle.greedy.specs.CutterLaws.{sample-leaves}
-use Rattle.greedy.specs.ProgressLaws.{lent-behind}
+use Rattle.greedy.proofs.CutterLaws.{sample-leaves}
+use Rattle.greedy.proofs.ProgressLaws.{lent-behind}
 use Rattle.greedy.specs.AllFed.{fed_all_by}
-use Rattle.greedy.specs.AllFedLaws.{to_feed, rest_by, Turn, turn, left_while, chunk-falls, left_to, InHalf, left-part, left-first, left-value}
+use Rattle.greedy.proofs.AllFedLaws.{to_feed, rest_by, Turn, turn, left_while, chunk-falls, left_to, InHalf, left-part, left-first, left-value}
 use Rattle.three_reading.specs.Three.{Three, triples_of}
 use Rattle.three_reading.specs.Three.Channel.{on_a}
 use Rattle.three_reading.specs.ThreeCalls.{ThreeOutcome}
@@ -31,7 +31,7 @@ use Rattle.three_logger.specs.declared.ThreeLogger.{ThreeLogger}
 use Rattle.three_logger.specs.declared.FeedAnswer.{FeedAnswer}
 use Rattle.three_logger.specs.declared.FeedAnswer.TheVariants.{Taken, Refused}
 use Rattle.three_logger.specs.Logger.{answer_told, three_fed_to, in_samples, three_fed}
-use Rattle.three_logger.specs.FeedLaws.{feed-fed}
+use Rattle.three_logger.proofs.FeedLaws.{feed-fed}
 use Rattle.event_log_three.specs.declared.FedAll.{FedAll}
 use Rattle.event_log_three.specs.ThreeFedAll.{told_in, fed_all_from}
 

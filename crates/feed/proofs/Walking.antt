@@ -23,13 +23,13 @@ use Rattle.window.specs.declared.Sums.{Sums}
 use Rattle.detection.specs.declared.Detector.{Detector}
 use Rattle.detection.specs.Detection.{sums_of}
 use Rattle.greedy.specs.Greedy.{fed_by}
-use Rattle.greedy.specs.CutterLaws.{taken-if, feed-taken, feed-stops, feed-rest}
-use Rattle.greedy.specs.ProgressLaws.{Progress, progress-none, progress-more, progress-last, part-long, lent-behind, back-behind}
+use Rattle.greedy.proofs.CutterLaws.{taken-if, feed-taken, feed-stops, feed-rest}
+use Rattle.greedy.proofs.ProgressLaws.{Progress, progress-none, progress-more, progress-last, part-long, lent-behind, back-behind}
 use Rattle.state.specs.declared.State.{State}
 use Rattle.state.specs.State.{state_with, ValidState}
 use Rattle.state.specs.Step.{half_due, half_joined, part_joined, passes_end, why_not, machine}
-use Rattle.state.specs.StepLaws.{cuts}
-use Rattle.state.specs.StepValid.{half_joined-valid, part_joined-valid}
+use Rattle.state.proofs.StepLaws.{cuts}
+use Rattle.state.proofs.StepValid.{half_joined-valid, part_joined-valid}
 use Rattle.state.specs.Calls.{fed_with}
 use Rattle.feed.specs.declared.Half.{Half}
 use Rattle.feed.specs.declared.Walked.{Walked}

@@ -1,10 +1,3 @@
 pub mod Greedy
-pub mod GreedyLaws
-pub mod GreatestLaws
-pub mod GreedyFollows
 pub mod Cutter
-pub mod CutterLaws
-pub mod ProgressLaws
-pub mod ToldLaws
 pub mod AllFed
-pub mod AllFedLaws

@@ -23,7 +23,7 @@ use Rattle.image.specs.declared.Acceptance.TheVariants.{Accepted, Refused}
 use Rattle.image.specs.Image.{state_at, save_answer, acceptance_told}
 use Rattle.logger.specs.Logger.{fed_to, saved_to}
 use Rattle.logger.specs.Calls.{logger_calls, spare_settings, Resumes}
-use Rattle.logger.specs.CallsLaws.{restore-accepted, restore-refused}
+use Rattle.logger.proofs.CallsLaws.{restore-accepted, restore-refused}
 use Rattle.day_count.specs.declared.DayCount.{DayCount}
 use Rattle.day_count.specs.declared.Counted.{Counted}
 use Rattle.day_count.specs.declared.Counted.TheVariants.{Day, Refused as NotCounted}

@@ -14,7 +14,7 @@ use Rattle.reading.specs.Layout.{record_length}
 use Rattle.samples.specs.Samples.{samples_of}
 use Rattle.samples.specs.SamplesLaws.{length-samples, samples_of-drop, samples_of-take}
 use Rattle.greedy.specs.Greedy.{fed_by}
-use Rattle.greedy.specs.ProgressLaws.{Progress, progress-none, progress-last, lent-behind, back-behind, chunk-taken, chunk-fits, chunk-more, chunk-last}
+use Rattle.greedy.proofs.ProgressLaws.{Progress, progress-none, progress-last, lent-behind, back-behind, chunk-taken, chunk-fits, chunk-more, chunk-last}
 use Rattle.state.specs.declared.State.{State}
 use Rattle.state.specs.State.{ValidState}
 use Rattle.state.specs.Step.{machine}

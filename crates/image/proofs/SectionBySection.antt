@@ -16,7 +16,7 @@ use Rattle.settings.specs.declared.Settings.{Settings}
 use Rattle.settings.specs.Settings.{window_length_of, settings_of, start_refusal, settings_read}
 use Rattle.reading.specs.Layout.{count_width, places, table_length, gatherer_length, events_length, image_length, gatherer_offset, events_offset}
 use Rattle.reading.specs.Image.{table}
-use Rattle.reading.specs.Restore.{part, same_bytes, gatherer_rule, values_rule, events_rule, settings_part, gatherer_in, values_in, events_in, restore_refusal_with, restore_refusal}
+use Rattle.reading.specs.Restore.{part, same_bytes, gatherer_rule, values_rule, events_rule, settings_part, gatherer_in, values_in, events_in, restore_refusal_with}
 use Rattle.reading.specs.Calls.{Restoration}
 use Rattle.rms.specs.declared.Gatherer.{Gatherer}
 use Rattle.detection.specs.declared.Detector.{Detector}

@@ -1,16 +1,6 @@
 -- A lane that is laid sample by sample: a sample as it is read and stored, and the places so far.
-use mathlib.Core.Path.{◌≡◌}
-use mathlib.Core.List.{List}
-use Prim.Native.Nat.{ℕ, ◌+◌, ◌^◌, ◌<◌}
-use native.Mathlib.Numerals.{add-one}
-use native.Mathlib.Omega.{arith}
-use mir.Syntax.{w16}
-use mir.Val.{to_z, of_z}
-use mir.ValLaws.{to_z-of_z}
+use Rattle.std.proofs.Common.{◌≡◌, List, ℕ, ◌+◌, ◌^◌, ◌<◌, add-one, arith, ℤ, pos, length, take, set, length-set, take_all, take-suc, take-suc-set, w16, to_z, of_z, to_z-of_z}
 use lib.Signed.{mag}
-use lib.IntN.{ℤ, pos}
-use lib.ListN.{length, take, set, length-set}
-use lib.Seq.{take_all, take-suc, take-suc-set}
 use Rattle.lanes.specs.LanesLaws.{sample_at}
 
 -- a sample is signed, and goes by its bits
@@ -21,7 +11,7 @@ abbrev pub kept : ℤ → ℤ
 kept z = to_z w16 (of_z w16 z)
 
 pub kept-is : (z : ℤ) → Small z → kept z ≡ z
-kept-is z h = to_z-of_z w16 z (record { sfits = h })
+kept-is z h = to_z-of_z {w = w16} {z = z} (record { sfits = h })
 
 -- so far as the list that is to stand there
 pub record Laid (lane : List ℤ) (i : ℕ) (before now : List ℤ) : Type 0 where

@@ -1,3 +1,2 @@
 pub mod Logger
 pub mod Calls
-pub mod CallsLaws

@@ -1,2 +1,1 @@
 pub mod ThreeClaim
-pub mod ThreeClaimProof

@@ -1,10 +1,5 @@
 -- The parts of three channels, each of which fits its gatherer.
-use mathlib.Core.Path.{◌≡◌, refl, ◌∙◌, ap}
-use Prim.Native.Nat.{ℕ, ◌+◌, ◌/◌, ◌^◌, ◌≤◌, ◌<◌}
-use mathlib.Core.List.{List}
-use native.Mathlib.Omega.{arith}
-use lib.ListN.{length}
-use lib.IntN.{ℤ}
+use Rattle.std.proofs.Common.{◌≡◌, refl, ◌∙◌, ap, ℕ, ◌+◌, ◌/◌, ◌^◌, ◌≤◌, ◌<◌, List, arith, length, ℤ}
 use Rattle.rms.specs.declared.Part.{Part}
 use Rattle.rms.specs.Gather.{part_of, PartFits}
 use Rattle.rms.specs.GatherLaws.{part_of-fits}

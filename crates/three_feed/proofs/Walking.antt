@@ -1,11 +1,5 @@
 -- The walk through a block of triples: its invariant, which starts, turns and ends.
-use mathlib.Core.Path.{◌≡◌, refl, sym, ◌∙◌, ap, subst}
-use mathlib.Core.Bool.{true, false}
-use mathlib.Core.List.{List, [], ◌++◌}
-use Prim.Native.Nat.{ℕ, zero, suc, ◌+◌, ◌-◌, ◌*◌, ◌/◌, ◌%◌, ◌≤◌, ◌<◌}
-use native.Mathlib.Omega.{arith}
-use lib.ListN.{length, take, drop, length-drop, take-append-drop}
-use lib.IntN.{ℤ}
+use Rattle.std.proofs.Common.{◌≡◌, refl, sym, ◌∙◌, ap, subst, true, false, List, [], ◌++◌, ℕ, zero, suc, ◌+◌, ◌-◌, ◌*◌, ◌/◌, ◌%◌, ◌≤◌, ◌<◌, arith, length, take, drop, length-drop, take-append-drop, ℤ}
 use borrow.Rule.Slice.PartMut.{put_mid, same_len_mid}
 use Rattle.settings.specs.declared.Settings.{Settings}
 use Rattle.settings.specs.declared.Scaled.{Scaled}
@@ -16,8 +10,8 @@ use Rattle.rms.specs.declared.Share.{Share}
 use Rattle.rms.specs.Gather.{cut, PartFits}
 use Rattle.rms.specs.CutLaws.{Within, cut-within}
 use Rattle.greedy.specs.Greedy.{fed_by}
-use Rattle.greedy.specs.CutterLaws.{taken-if, feed-taken, feed-stops, feed-rest}
-use Rattle.greedy.specs.ProgressLaws.{Progress, progress-none, progress-more, progress-last, part-long, lent-behind, back-behind}
+use Rattle.greedy.proofs.CutterLaws.{taken-if, feed-taken, feed-stops, feed-rest}
+use Rattle.greedy.proofs.ProgressLaws.{Progress, progress-none, progress-more, progress-last, part-long, lent-behind, back-behind}
 use Rattle.three_reading.specs.Three.{Three, Channel, at, triples_of, channel}
 use Rattle.three_reading.specs.Three.Channel.{on_a, on_b, on_c}
 use Rattle.three_laws.specs.ChannelLaws.{length-channel}
@@ -153,13 +147,7 @@ module _ {s : Settings} {ws₀ : Three (List ℕ)} {ms₀ : List ℕ} {block : L
   rest = drop from xs
 
   -- what is lent stays as long as it was
-  pub same-window : ValidThree st₀ → (c : Channel) → length (at c ws) ≡ length (at c ws₀)
-  same-window ok c = (inv.so_far.valid.window-valid c).size ∙ sym (ok.window-valid c).size
-
-  pub same-marks : ValidThree st₀ → length ms ≡ length ms₀
-  same-marks ok = inv.so_far.valid.marks-valid.size ∙ sym ok.marks-valid.size
-
-  pub same-records : (part : List ℕ) → length part ≡ length (take (length out - behind) (drop behind out)) →
+  same-records : (part : List ℕ) → length part ≡ length (take (length out - behind) (drop behind out)) →
       length (put_mid behind (length out - behind) out part) ≡ length lent
   same-records part kept = same_len_mid behind (length out - behind) out part kept ∙ inv.long
 
@@ -222,9 +210,6 @@ module _ {s : Settings} {ws₀ : Three (List ℕ)} {ms₀ : List ℕ} {block : L
 
     half-long : length half ≡ n
     half-long = part-long from n xs inv.share_in
-
-    pub part-ready : let own = take (3 * (from + n) - 3 * from) (drop (3 * from) block) in (length own % 3 ≡ 0) × (length own ≤ 768)
-    part-ready = let long = between-long n (from + n) refl inv.share_in in (omega arith, omega (arith, inv.share-most))
 
     pub stop-ready : let own = take (3 * (from + n - 1) - 3 * from) (drop (3 * from) block) in (length own % 3 ≡ 0) × RoomFor g (length own / 3)
     stop-ready =

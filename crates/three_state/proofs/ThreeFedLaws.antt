@@ -2,8 +2,8 @@
 use Rattle.std.specs.Prelude.{List, ◌∷◌, [], ℕ, ◌≤◌, ◌<◌, length, ℤ}
 use Rattle.reading.specs.Feed.{last_value}
 use Rattle.reading.specs.Engineer.{room}
-use Rattle.greedy.specs.CutterLaws.{sample-due, sample-within}
-use Rattle.greedy.specs.ToldLaws.{ToldWithin, takes_one, told-within}
+use Rattle.greedy.proofs.CutterLaws.{sample-due, sample-within}
+use Rattle.greedy.proofs.ToldLaws.{ToldWithin, takes_one, told-within}
 use Rattle.three_reading.specs.Three.{Three}
 use Rattle.three_state.specs.declared.ThreeState.{ThreeState}
 use Rattle.three_state.specs.ThreeStep.{parts_of, three_cutter, three_machine}

@@ -29,9 +29,9 @@ use Rattle.window.specs.Window.{pushed, window_of}
 use Rattle.window.specs.WindowFollows.{window_of-none, window-follows}
 use Rattle.rvc.specs.Phase.{phase_under}
 use Rattle.greedy.specs.Cutter.{ends_half}
-use Rattle.greedy.specs.GreedyFollows.{StepsFollow}
+use Rattle.greedy.proofs.GreedyFollows.{StepsFollow}
 use Rattle.state.specs.State.{phase_number_of, readings_of}
-use Rattle.state.specs.StepFollows.{halves-none, readings-of}
+use Rattle.state.proofs.StepFollows.{halves-none, readings-of}
 use Rattle.three_reading.specs.Three.{Three, any_of, Channel, at, channel, joint_count, joint_value, joint_history, joint_values, joint_marks}
 use Rattle.three_reading.specs.Three.Channel.{on_a, on_b, on_c}
 use Rattle.three_reading.specs.JointEvents.{joint_since}

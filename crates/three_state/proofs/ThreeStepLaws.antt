@@ -8,7 +8,7 @@ use Rattle.rms.specs.declared.Gatherer.{Gatherer}
 use Rattle.rms.specs.Gather.{part_of, with_part, with_half, value_with}
 use Rattle.rms.specs.CutLaws.{cut-none, next-below, cut-cons, cut-within}
 use Rattle.rms.specs.GatherLaws.{none-joins, part-adds, half-adds, value-with}
-use Rattle.greedy.specs.CutterLaws.{Cuts}
+use Rattle.greedy.proofs.CutterLaws.{Cuts}
 use Rattle.three_reading.specs.Three.{Three, Channel, at, channel}
 use Rattle.three_reading.specs.Three.Channel.{on_a, on_b, on_c}
 use Rattle.three_laws.specs.ChannelLaws.{length-channel}

@@ -9,7 +9,6 @@ use Rattle.rvc.specs.declared.Phase.{Phase}
 use Rattle.rvc.specs.declared.Phase.TheVariants.{Filling, Unsettled, Steady, Changing}
 use Rattle.rvc.specs.Phase.{phase_row}
 use Rattle.bodies.specs.Bodies.{standing_row}
-use Rattle.bodies.proofs.put_detector.Goals.{After-change_mark}
 use Rattle.bodies.proofs.put_detector.Goals as goal
 
 -- the first five elements, and others behind them
@@ -24,17 +23,12 @@ five-of (Changing c) rest = refl
 
 pub returns : goal.returns
 returns c =
-    let at-change = (goal.at.returns c).After-change_mark in
-    let at-interruption = at-change.before in
-    let at-swell = at-interruption.before in
-    let at-dip = at-swell.before in
-    let at-numbers = at-dip.before.before.before.before in
-    let d = at-numbers.before.before.args.detector in
-    let numbers = at-numbers.Numbers-of.ensures in
-    let dip = at-dip.flag.ensures in
-    let swell = at-swell.flag2.ensures in
-    let interruption = at-interruption.flag3.ensures in
-    let change = at-change.change_mark.ensures in
+    let d = c.args.detector in
+    let numbers = c.numbers_of-change.ensures in
+    let dip = c.flag.ensures in
+    let swell = c.flag-2.ensures in
+    let interruption = c.flag-3.ensures in
+    let change = c.change_mark.ensures in
     let events = standing_row d.dip ++ (standing_row d.swell ++ standing_row d.interruption) in
     c.put_row.ensures
     ∙ ((λ i. row events_widths (five (numbers i) (events ++ (dip i ∷ swell i ∷ interruption i ∷ change i ∷ []))))

@@ -11,7 +11,6 @@ use Rattle.octets.specs.RowLaws.{length-row, row-append, row-ones}
 use Rattle.octets.specs.PartsLaws.{put_next, put_last, bytes_of-part}
 use Rattle.reading.specs.Layout.{count_width, places, values_widths, values_length}
 use Rattle.bodies.specs.Bodies.{marks_at}
-use Rattle.bodies.proofs.put_values.Goals.{After-put_number}
 use Rattle.bodies.proofs.put_values.Goals as goal
 
 module _ (w marks : List ℕ) (values-size : length w ≡ places) (marks-size : length marks ≡ places) where
@@ -35,12 +34,9 @@ module _ (w marks : List ℕ) (values-size : length w ≡ places) (marks-size : 
 
 pub returns : goal.returns
 returns c =
-    let at-number = (goal.at.returns c).After-put_number in
-    let known = at-number.before.before in
-    let start = known.before.before.before in
-    let a = start.args in
-    values-put a.window.now a.marks.now start.requires.1 start.requires.2 a.part.now a.count _ _ _ start.requires.0
-    (bytes-by a.marks.now (λ i. omega (arith, known.shared_slice_known2.given i)))
-    (bytes_of-part 0 count_width a.count a.part.now _ (omega arith) at-number.put_number.ensures)
+    let a = c.args in
+    values-put a.window.now a.marks.now c.requires.1 c.requires.2 a.part.now a.count _ _ _ c.requires.0
+    (bytes-by a.marks.now (λ i. omega (arith, c.type_inv.marks i)))
+    (bytes_of-part 0 count_width a.count a.part.now _ (omega arith) c.put_number.ensures)
     c.put_words.ensures
     c.copy.ensures

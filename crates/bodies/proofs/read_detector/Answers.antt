@@ -3,7 +3,6 @@ use mathlib.Core.Path.{◌≡◌, sym, ◌∙◌, ap}
 use mathlib.Core.Bool.{Bool}
 use mathlib.Core.List.{List}
 use Prim.Native.Nat.{ℕ}
-use borrow.Author.Tests.{not-true, not-false}
 use Rattle.octets.specs.Bytes.{numbers_in}
 use Rattle.numbers.specs.Notation.{refuse◌unless◌then◌}
 use Rattle.numbers.specs.Answers.{Answered, answered}
@@ -16,7 +15,6 @@ use Rattle.reading.specs.Restore.{events_rule}
 use Rattle.rvc.specs.declared.Phase.{Phase}
 use Rattle.detection.specs.declared.Detector.{Detector}
 use Rattle.bodies.specs.Bodies.{standing_from, detector_from, detector_answer}
-use Rattle.bodies.proofs.read_detector.Goals.{After-events_good, After-events_numbers-numbers, Start}
 use Rattle.bodies.proofs.read_detector.Goals as goal
 
 abbrev with-phase : ℕ → List ℕ → Phase → Detector
@@ -30,28 +28,17 @@ answer-is : (s : Settings) (v : ℕ) (body ns : List ℕ) {n : ℕ} (r : Bool) �
 unfolding detector_answer
 answer-is s v body ns r e n-is t = ap (λ (b : Bool). answer-by b v ns) t ∙ (λ i. answer-by (passes (events_rule (n-is i) v (e i))) v (e i))
 
---! in a helper: c.before.before.before is After-events_numbers-numbers
--- what `events_good` answered of them
-module _ (c : After-events_good) where
-  abbrev at_row : After-events_numbers-numbers
-  at_row = c
-
-  abbrev ns : List ℕ
-  ns = at_row.events_numbers.result
-
-  abbrev start : Start
-  start = at_row.before.before
-
-  abbrev v : ℕ
-  v = start.args.count
-
-  answer : answer-by c.events_good.result v ns ≡ detector_answer start.args.settings v start.args.part.now
-  answer = answer-is _ v _ ns _ at_row.events_numbers.ensures c.window_length.ensures.0 c.events_good.ensures
-
 pub returns-then-not-events_good : goal.returns-then-not-events_good
-returns-then-not-events_good c = ap (λ (b : Bool). answer-by b (v (goal.at.returns-then-not-events_good c).After-events_good) (ns (goal.at.returns-then-not-events_good c).After-events_good)) (sym (not-true c.events_good.result c.if-not-events_good.true)) ∙ answer (goal.at.returns-then-not-events_good c).After-events_good
+returns-then-not-events_good c =
+    let v = c.args.count in
+    let ns = c.events_numbers-numbers.result in
+    ap (λ (b : Bool). answer-by b v ns) (sym c.if-not-events_good.true)
+    ∙ answer-is c.args.settings v c.args.part.now ns c.events_good.result c.events_numbers-numbers.ensures c.window_length.ensures.0 c.events_good.ensures
 
 pub returns : goal.returns
 returns c =
-    ap (λ (q : Phase). accepted (with-phase (v (goal.at.returns c).After-events_good) (ns (goal.at.returns c).After-events_good) q)) c.phase_of-phase.ensures
-    ∙ (ap (λ (b : Bool). answer-by b (v (goal.at.returns c).After-events_good) (ns (goal.at.returns c).After-events_good)) (sym (not-false c.events_good.result c.if-not-events_good.false)) ∙ answer (goal.at.returns c).After-events_good)
+    let v = c.args.count in
+    let ns = c.events_numbers-numbers.result in
+    ap (λ (q : Phase). accepted (with-phase v ns q)) c.phase_of-phase.ensures
+    ∙ (ap (λ (b : Bool). answer-by b v ns) (sym c.if-not-events_good.false)
+    ∙ answer-is c.args.settings v c.args.part.now ns c.events_good.result c.events_numbers-numbers.ensures c.window_length.ensures.0 c.events_good.ensures)

@@ -7,7 +7,6 @@ use Rattle.numbers.specs.Notation.{refuse◌unless◌then◌}
 use Rattle.reading.specs.Image.{table_with}
 use Rattle.reading.specs.Restore.{same_bytes}
 use Rattle.bodies.specs.BodiesLaws.{same-equal, same-itself}
-use Rattle.bodies.proofs.read_table.Goals.{After-same}
 use Rattle.bodies.proofs.read_table.Goals as goal
 
 -- an answer that is true of equal bytes only, and of all that are equal, is the reading's test
@@ -23,13 +22,13 @@ abbrev number_by : Bool → ℕ
 number_by b = refuse 9 unless b then 0
 
 -- what `same` answered of the bytes that were written
-answer : (c : After-same) → let a = c.args in c.same.result ≡ same_bytes a.part.now (table_with a.count_width)
-answer c =
-    let part = c.args.part.now in
-    answer-same part _ c.same.result c.same.ensures.0 c.same.ensures.1 ∙ ap (same_bytes part) c.put_table.ensures
+answer : (part : List ℕ) (r : Bool) (n : ℕ) {written : List ℕ} → written ≡ table_with n → (r ≡ true → part ≡ written) → (part ≡ written → r ≡ true) → r ≡ same_bytes part (table_with n)
+answer part r n {written = written} e f g = answer-same part written r f g ∙ ap (same_bytes part) e
 
 pub returns-then-same : goal.returns-then-same
-returns-then-same c = ap number_by (sym c.if-same.true ∙ answer (goal.at.returns-then-same c).After-same)
+returns-then-same c =
+    ap number_by (sym c.if-same.true ∙ answer c.args.part.now c.same.result c.args.count_width c.put_table.ensures c.same.ensures.0 c.same.ensures.1)
 
 pub returns-else-same : goal.returns-else-same
-returns-else-same c = ap number_by (sym c.if-same.false ∙ answer (goal.at.returns-else-same c).After-same)
+returns-else-same c =
+    ap number_by (sym c.if-same.false ∙ answer c.args.part.now c.same.result c.args.count_width c.put_table.ensures c.same.ensures.0 c.same.ensures.1)

@@ -16,7 +16,6 @@ use Rattle.reading.specs.Layout.{count_width, places, values_widths, values_leng
 use Rattle.reading.specs.Restore.{values_rule}
 use Rattle.bodies.specs.declared.Verdict.{Verdict}
 use Rattle.bodies.specs.Bodies.{values_number, marks_at, WindowTold}
-use Rattle.bodies.proofs.read_window.Goals.{After-copy, After-get_words, After-number-count, After-values_good, Start}
 use Rattle.bodies.proofs.read_window.Goals as goal
 
 abbrev number_by : Bool → ℕ
@@ -67,30 +66,12 @@ module _ (body : List ℕ) (size : length body ≡ values_length) where
         marks_are = sym (drop_at w marks places long) ∙ (λ i. drop (1 + places) (are i));
       }
 
---! in a helper: c.before.before.before.before.before is After-copy
--- what `values_good` answered of them, as a verdict
-module _ (c : After-values_good) where
-  abbrev at_copy : After-copy
-  at_copy = c
-
-  abbrev at_words : After-get_words
-  at_words = at_copy.before.before.before.before
-
-  abbrev at-number : After-number-count
-  at-number = at_words.before.before.before
-
-  abbrev start : Start
-  start = at-number.before.before.before
-
-  answer : {verdict : Verdict} → values_number verdict ≡ number_by c.values_good.result →
-      WindowTold start.args.settings start.args.whole start.args.part.now
-      (record { verdict = verdict; count = at-number.number.result; window = at_words.get_words.last.1.0; marks = at_copy.copy.last.0 })
-  answer =
-      told start.args.part.now start.pre start.args.settings start.args.whole at-number.number.ensures at_words.get_words.ensures
-      at_copy.copy.ensures c.window_length.ensures.0 _ c.values_good.ensures
-
 pub returns-then-values_good : goal.returns-then-values_good
-returns-then-values_good c = answer (goal.at.returns-then-values_good c).After-values_good (ap number_by (sym c.if-values_good.true))
+returns-then-values_good c =
+    told c.args.part.now c.requires c.args.settings c.args.whole c.number-count.ensures c.get_words.ensures c.copy.ensures c.window_length.ensures.0
+    c.values_good.result c.values_good.ensures (ap number_by (sym c.if-values_good.true))
 
 pub returns-else-values_good : goal.returns-else-values_good
-returns-else-values_good c = answer (goal.at.returns-else-values_good c).After-values_good (ap number_by (sym c.if-values_good.false))
+returns-else-values_good c =
+    told c.args.part.now c.requires c.args.settings c.args.whole c.number-count.ensures c.get_words.ensures c.copy.ensures c.window_length.ensures.0
+    c.values_good.result c.values_good.ensures (ap number_by (sym c.if-values_good.false))

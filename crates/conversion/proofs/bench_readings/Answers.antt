@@ -1,5 +1,5 @@
--- The bench readings are computed in `specs/ConversionBenchProof.antt`.
-use Rattle.conversion.specs.ConversionBenchProof.{bench-holds}
+-- The bench readings are computed in `proofs/ConversionBenchProof.antt`.
+use Rattle.conversion.proofs.ConversionBenchProof.{bench-holds}
 use Rattle.conversion.proofs.bench_readings.Goals as goal
 
 pub returns : goal.returns

@@ -11,7 +11,7 @@ use Rattle.reading.specs.Restore.{same_bytes, restore_refusal}
 use Rattle.bodies.specs.Bodies.{table_number, table_refusal}
 use Rattle.bodies.specs.BodiesLaws.{same-equal, same-itself}
 use Rattle.conversion.specs.Conversion.{image_as}
-use Rattle.conversion.specs.ImageConvertedLaws.{other_length, other-table, made-refused, forth-short, forth-done}
+use Rattle.conversion.proofs.ImageConvertedLaws.{other_length, other-table, made-refused, forth-short, forth-done}
 use Rattle.conversion.proofs.convert_image.Goals as goal
 
 -- what the verdict on a table says of it

@@ -10,7 +10,7 @@ use Rattle.octets.specs.BytesLaws.{bytes-by}
 use Rattle.reading.specs.Layout.{count_width, earlier_width, image_length_with}
 use Rattle.reading.specs.Restore.{values_in_with, restore_refusal}
 use Rattle.image.specs.PassedLaws.{passes-all}
-use Rattle.conversion.specs.ImageConvertedLaws.{not_good, count-above, back-short, back_done}
+use Rattle.conversion.proofs.ImageConvertedLaws.{not_good, count-above, back-short, back_done}
 use Rattle.conversion.proofs.convert_image_back.Goals as goal
 
 -- V is read from the image's own bytes

@@ -1,5 +1,5 @@
--- The promises are proved in `specs/PromisesProof.antt`.
-use Rattle.conversion.specs.PromisesProof.{promises-hold}
+-- The promises are proved in `proofs/PromisesProof.antt`.
+use Rattle.conversion.proofs.PromisesProof.{promises-hold}
 use Rattle.conversion.proofs.promises.Goals as goal
 
 pub returns : goal.returns

@@ -5,7 +5,7 @@ use native.Mathlib.Omega.{arith}
 use lib.ListN.{length, length-take, length-drop}
 use borrow.Author.Rules.{rules}
 use Rattle.octets.specs.Bytes.{row}
-use Rattle.conversion.specs.RowsLaws.{row-asked, row_read, length_at, one-put, all-put}
+use Rattle.conversion.proofs.RowsLaws.{row-asked, row_read, length_at, one-put, all-put}
 use Rattle.conversion.proofs.put_records.Goals as goal
 
 pub loop-at-init : goal.loop-at-init

@@ -3,7 +3,7 @@ use mathlib.Core.Path.{refl, sym, ◌∙◌, ap}
 use borrow.Author.Rules.{rules}
 use borrow.Author.Tests.{not-true, not-false}
 use Rattle.conversion.specs.Conversion.{converted_to}
-use Rattle.conversion.specs.RowsLaws.{has_room, not-whole, not_good, not-fit, no_room, all-converted}
+use Rattle.conversion.proofs.RowsLaws.{has_room, not-whole, not_good, not-fit, no_room, all-converted}
 use Rattle.conversion.proofs.records_to.Goals as goal
 
 pub returns-then-list-length-ne0 : goal.returns-then-list-length-ne0

@@ -5,7 +5,7 @@ use native.Mathlib.Omega.{arith}
 use borrow.Author.Rules.{rules}
 use Rattle.reading.specs.Layout.{record_widths_with}
 use Rattle.conversion.specs.Conversion.{fits, good_row}
-use Rattle.conversion.specs.RowsLaws.{row-asked, row_read, all_more, all_tested}
+use Rattle.conversion.proofs.RowsLaws.{row-asked, row_read, all_more, all_tested}
 use Rattle.conversion.proofs.test_records.Goals as goal
 
 pub loop-at-init : goal.loop-at-init

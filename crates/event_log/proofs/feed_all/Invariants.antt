@@ -2,7 +2,7 @@
 -- four records in each.
 use Rattle.std.proofs.Common.{◌≡◌, ◌≤◌, length}
 use Rattle.greedy.specs.AllFed.{fed_all_by}
-use Rattle.greedy.specs.AllFedLaws.{to_feed, rest_by}
+use Rattle.greedy.proofs.AllFedLaws.{to_feed, rest_by}
 use Rattle.state.specs.State.{ValidState}
 use Rattle.state.specs.Step.{machine}
 use Rattle.event_log.proofs.feed_all.Given as goal

@@ -1,5 +1,5 @@
 -- The logger is valid. The measure: the samples that are left to V's end while there is more, for a whole chunk that is taken lowers them.
-use Rattle.greedy.specs.AllFedLaws.{left_while}
+use Rattle.greedy.proofs.AllFedLaws.{left_while}
 use Rattle.state.specs.State.{ValidState}
 use Rattle.event_log.specs.FedAllLaws.{left}
 use Rattle.event_log.proofs.log.Given as goal

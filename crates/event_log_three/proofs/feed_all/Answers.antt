@@ -1,7 +1,7 @@
 -- A feed is a turn, told in samples: what it writes has room, and what it leaves is the rest.
 use Rattle.std.proofs.Common.{◌≡◌, ◌+◌, ◌/◌, ◌<◌, ℕ, ap, ◌∙◌, arith}
 use Rattle.std.proofs.Math.Path.{subst⁻¹}
-use Rattle.greedy.specs.AllFedLaws.{to_feed, rest_by}
+use Rattle.greedy.proofs.AllFedLaws.{to_feed, rest_by}
 use Rattle.three_reading.specs.Three.{triples_of}
 use Rattle.three_state.specs.ThreeStep.{three_machine}
 use Rattle.event_log_three.specs.ThreeFedAllLaws.{fed-turn}

@@ -2,7 +2,7 @@
 -- four records in each.
 use Rattle.std.proofs.Common.{◌≡◌, ◌≤◌, ◌/◌, ◌%◌, length}
 use Rattle.greedy.specs.AllFed.{fed_all_by}
-use Rattle.greedy.specs.AllFedLaws.{to_feed, rest_by}
+use Rattle.greedy.proofs.AllFedLaws.{to_feed, rest_by}
 use Rattle.three_reading.specs.Three.{triples_of}
 use Rattle.three_state.specs.ThreeState.{ValidThree}
 use Rattle.three_state.specs.ThreeStep.{three_machine}

@@ -1,7 +1,7 @@
 -- A whole chunk that is taken lowers what is left.
 use Rattle.std.proofs.Common.{Bool, ◌&&◌, ◌<◌, sym}
 use Rattle.std.proofs.Math.Path.{subst⁻¹}
-use Rattle.greedy.specs.AllFedLaws.{left_while}
+use Rattle.greedy.proofs.AllFedLaws.{left_while}
 use Rattle.event_log_three.specs.ThreeFedAllLaws.{left, bytes-fall}
 use Rattle.event_log_three.proofs.log.Goals as goal
 

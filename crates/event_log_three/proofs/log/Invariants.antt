@@ -1,5 +1,5 @@
 -- The logger is valid. The measure: the samples that are left to V's end while there is more, for a whole chunk that is taken lowers them.
-use Rattle.greedy.specs.AllFedLaws.{left_while}
+use Rattle.greedy.proofs.AllFedLaws.{left_while}
 use Rattle.three_state.specs.ThreeState.{ValidThree}
 use Rattle.event_log_three.specs.ThreeFedAllLaws.{left}
 use Rattle.event_log_three.proofs.log.Given as goal

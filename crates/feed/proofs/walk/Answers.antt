@@ -1,7 +1,7 @@
-use Prim.Native.Nat.{◌+◌, ◌-◌, ◌*◌, ◌^◌, ◌<◌, ◌≤◌}
+-- What the steps of the walk ask, by the laws of Walking.
+use Prim.Native.Nat.{◌+◌, ◌-◌, ◌*◌}
 use native.Mathlib.Omega.{arith}
 use lib.ListN.{length, drop, length-take}
-use borrow.Author.Rules.{rules}
 use borrow.Rule.Slice.PartMut.{same_len_mid}
 use Rattle.reading.specs.Layout.{record_length}
 use Rattle.feed.proofs.Walking.{walk-starts, share-some, half-few, complete-ready, taken-fits, taken-count, walk-turns, walk-stops, walk_ends}

@@ -1,5 +1,5 @@
--- Demand 2 is proved in `specs/Demand2Proof.antt`.
-use Rattle.handover.specs.Demand2Proof.{demand2-holds}
+-- Demand 2 is proved in `proofs/Demand2Proof.antt`.
+use Rattle.handover.proofs.Demand2Proof.{demand2-holds}
 use Rattle.handover.proofs.demand2.Goals as goal
 
 pub returns : goal.returns

@@ -1,5 +1,5 @@
--- Demand 3 is proved in `specs/ClaimProof.antt`.
-use Rattle.handover.specs.ClaimProof.{demand3-holds}
+-- Demand 3 is proved in `proofs/ClaimProof.antt`.
+use Rattle.handover.proofs.ClaimProof.{demand3-holds}
 use Rattle.handover.proofs.demand3.Goals as goal
 
 pub returns : goal.returns

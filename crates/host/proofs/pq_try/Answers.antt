@@ -1,42 +1,26 @@
 -- Restore's answer, then the tests in advance's order; each way out is a law of Answers.
 use Rattle.host.proofs.Answers.{try-image-refused, try-odd-refused, try-reply-refused, try-done}
-use Rattle.host.proofs.pq_try.Goals.{After-put_reply, In-Accepted, In-Refused-2}
 use Rattle.host.proofs.pq_try.Goals as goal
 
 pub returns-then-samples-ne0 : goal.returns-then-samples-ne0
 returns-then-samples-ne0 c =
-    let at-enum-told = (goal.at.returns-then-samples-ne0 c).In-Accepted in
-    let at-resume = at-enum-told.before.before.before in
-    let a = at-resume.before.before.before.before.before.args in
-    try-odd-refused a.image.now a.samples.now a.scratch.now a.reply.now
-    at-resume.resume.ensures at-enum-told.enum_told.given.1 c.if-samples-ne0.true
+    let a = c.args in
+    try-odd-refused a.image.now a.samples.now a.scratch.now a.reply.now c.resume-resumed.ensures c.in-Accepted.is c.if-samples-ne0.true
 
 pub returns-then-reply-lt-REPLY_LENGTH : goal.returns-then-reply-lt-REPLY_LENGTH
 returns-then-reply-lt-REPLY_LENGTH c =
-    let at-enum-told = (goal.at.returns-then-reply-lt-REPLY_LENGTH c).In-Accepted in
-    let at-resume = at-enum-told.before.before.before in
-    let a = at-resume.before.before.before.before.before.args in
-    try-reply-refused a.image.now a.samples.now a.scratch.now a.reply.now
-    at-resume.resume.ensures at-enum-told.enum_told.given.1 c.if-samples-ne0.false c.if-reply-lt-REPLY_LENGTH.true
+    let a = c.args in
+    try-reply-refused a.image.now a.samples.now a.scratch.now a.reply.now c.resume-resumed.ensures c.in-Accepted.is c.if-samples-ne0.false
+    c.if-reply-lt-REPLY_LENGTH.true
 
 pub returns-in-Refused : goal.returns-in-Refused
 returns-in-Refused c =
-    let at-answer = (goal.at.returns-in-Refused c).In-Refused-2 in
-    let at-resume = at-answer.before.before.before in
-    let a = at-resume.before.before.before.before.before.args in
-    try-image-refused a.image.now a.samples.now a.scratch.now a.reply.now
-    at-resume.resume.ensures _ at-answer.answer.given.1
+    let a = c.args in
+    try-image-refused a.image.now a.samples.now a.scratch.now a.reply.now c.resume-resumed.ensures _ c.in-Refused.is
 
 pub returns-else-reply-lt-REPLY_LENGTH : goal.returns-else-reply-lt-REPLY_LENGTH
 returns-else-reply-lt-REPLY_LENGTH c =
-    let at-put-reply = (goal.at.returns-else-reply-lt-REPLY_LENGTH c).After-put_reply in
-    let at-feed-chunks = at-put-reply.before.before.before.before.before in
-    let second = at-feed-chunks.before.before in
-    let first = second.before in
-    let at-enum-told = first.before in
-    let at-resume = at-enum-told.before.before.before in
-    let a = at-resume.before.before.before.before.before.args in
-    let fed = at-feed-chunks.feed_chunks in
-    try-done a.image.now a.samples.now a.scratch.now a.reply.now
-    at-resume.resume.ensures at-enum-told.enum_told.given.1 first.if1.false second.if2.false
-    fed.result.logger.state fed.result.told _ _ fed.ensures at-put-reply.put_reply.ensures
+    let a = c.args in
+    let fed = c.feed_chunks-fed in
+    try-done a.image.now a.samples.now a.scratch.now a.reply.now c.resume-resumed.ensures c.in-Accepted.is c.if-samples-ne0.false
+    c.if-reply-lt-REPLY_LENGTH.false fed.result.logger.state fed.result.told _ _ fed.ensures c.put_reply.ensures

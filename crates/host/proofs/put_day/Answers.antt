@@ -4,7 +4,7 @@ use mathlib.Core.List.{[], ◌∷◌}
 use Rattle.octets.specs.Bytes.{row}
 use Rattle.reading.specs.Engineer.{over}
 use Rattle.reading.specs.Layout.{day_reply_widths}
-use Rattle.host.proofs.put_day.Goals.{After-flag-2}
+use Rattle.host.specs.Host.{day_replied}
 use Rattle.host.proofs.put_day.Goals as goal
 
 pub put_front-requires : goal.put_front-requires
@@ -13,9 +13,6 @@ put_front-requires c = (refl, refl, c.requires)
 pub returns : goal.returns
 unfolding day_replied
 returns c =
-    let first-flag = (goal.at.returns c).After-flag-2 in
-    let second-flag = first-flag.before in
-    let a = second-flag.before.before.before.before.args in
-    let d = a.day in
+    let d = c.args.day in
     c.put_front.ensures
-    ∙ (λ i. over (row day_reply_widths (d.second.count ∷ d.first.count ∷ second-flag.flag.ensures i ∷ first-flag.flag2.ensures i ∷ [])) a.reply.now)
+    ∙ (λ i. over (row day_reply_widths (d.second.count ∷ d.first.count ∷ c.flag.ensures i ∷ c.flag-2.ensures i ∷ [])) c.args.reply.now)

@@ -1,9 +1,5 @@
-use mathlib.Core.Path.{◌≡◌, refl, sym, ◌∙◌, ap}
-use mathlib.Core.List.{List}
-use Prim.Native.Nat.{ℕ, ◌+◌, ◌-◌, ◌*◌, ◌%◌, ◌<◌}
-use native.Mathlib.Omega.{arith}
-use lib.IntN.{ℤ}
-use lib.ListN.{length, set, length-take}
+-- What a turn reads is small, and what it lays is the next place of each lane.
+use Rattle.std.proofs.Common.{◌≡◌, refl, sym, ◌∙◌, ap, List, ℕ, ◌+◌, ◌*◌, ◌%◌, ◌<◌, arith, rules, ℤ, length, set}
 use Rattle.three_reading.specs.Three.{Three, each, Channel}
 use Rattle.three_reading.specs.Three.Channel.{on_a, on_b, on_c}
 use Rattle.lanes.specs.Lanes.{lane_in}
@@ -32,43 +28,31 @@ module _ (c : Channel) (n i : ℕ) (block : List ℤ) {before now : List ℤ} (l
       let lane = length-lane_in n block long c in
       laid-all (lane_in c n block) i l (omega arith) (omega arith)
 
-pub slice_bounds-first-end : goal.slice_bounds-first-end
-slice_bounds-first-end c = simp length-take (omega arith)
-
-pub loop-i-init : goal.loop-i-init
-loop-i-init c = (omega arith, record { same = refl; so_far = refl }, record { same = refl; so_far = refl }, record { same = refl; so_far = refl })
-
-pub bounds-first-i : goal.bounds-first-i
-bounds-first-i c = simp length-take (omega arith)
-
---! path c.before.before.before.before.before.before.before.before.before.before.before at After-chosen3
 pub loop-i-preserved : goal.loop-i-preserved
 loop-i-preserved c =
     let l = c.loop-i in
-    let start = c in
-    let n = length start.args.a.now in
+    let p = c.requires in
+    let n = length c.args.a.now in
     let inside : l.i < n = omega arith in
-    let block = start.args.block.now in
-    let small : AllSmall (column n block l.i) =
-    (c.x-1.given, c.y-1.given, c.z-1.given) in
+    let block = c.args.block.now in
+    let small : AllSmall (column n block l.i) = (search rules, search rules, search rules) in
     let first = c.chosen in
     let second = c.chosen-in-loop-i in
     let third = c.chosen-in-loop-i-2 in (
       omega arith,
-      more on_a n l.i block l.invariant.1 refl start.requires.0 inside small first.type_inv first.ensures,
-      more on_b n l.i block l.invariant.2 start.requires.2 start.requires.0 inside small second.type_inv second.ensures,
-      more on_c n l.i block l.invariant.3 start.requires.3 start.requires.0 inside small third.type_inv third.ensures,
+      more on_a n l.i block l.invariant.1 refl p.0 inside small first.type_inv first.ensures,
+      more on_b n l.i block l.invariant.2 p.2 p.0 inside small second.type_inv second.ensures,
+      more on_c n l.i block l.invariant.3 p.3 p.0 inside small third.type_inv third.ensures,
     )
 
---! path c.before.before.before.before.before at After-loop
 pub returns : goal.returns
 returns c =
     let l = c.loop-i in
-    let start = c in
-    let n = length start.args.a.now in
+    let p = c.requires in
+    let n = length c.args.a.now in
     let ended : l.i ≡ n = omega arith in
-    let block = start.args.block.now in (
-      all on_a n l.i block l.invariant.1 refl start.requires.0 ended,
-      all on_b n l.i block l.invariant.2 start.requires.2 start.requires.0 ended,
-      all on_c n l.i block l.invariant.3 start.requires.3 start.requires.0 ended,
+    let block = c.args.block.now in (
+      all on_a n l.i block l.invariant.1 refl p.0 ended,
+      all on_b n l.i block l.invariant.2 p.2 p.0 ended,
+      all on_c n l.i block l.invariant.3 p.3 p.0 ended,
     )

@@ -1,9 +1,5 @@
-use mathlib.Core.Path.{◌≡◌, refl, sym}
-use mathlib.Core.List.{List}
-use Prim.Native.Nat.{ℕ, ◌+◌, ◌-◌, ◌*◌, ◌<◌}
-use native.Mathlib.Omega.{arith}
-use lib.IntN.{ℤ}
-use lib.ListN.{length, set}
+-- What a turn lays is the next place of each channel.
+use Rattle.std.proofs.Common.{◌≡◌, refl, sym, List, ℕ, ◌+◌, ◌*◌, ◌<◌, arith, rules, ℤ, length, set}
 use Rattle.three_reading.specs.Three.{triples_of, Channel, at, channel}
 use Rattle.three_reading.specs.Three.Channel.{on_a, on_b, on_c}
 use Rattle.lanes.specs.LanesLaws.{triple_at, channel-at, length-channel_of}
@@ -22,9 +18,6 @@ module _ (c : Channel) (n i : ℕ) (block : List ℤ) {before now : List ℤ} (l
   all : i ≡ n → now ≡ channel c (triples_of block)
   all h = laid-all (channel c (triples_of block)) i l (omega (arith, lane-long)) (omega (arith, lane-long))
 
-pub loop-i-init : goal.loop-i-init
-loop-i-init c = (omega arith, record { same = refl; so_far = refl }, record { same = refl; so_far = refl }, record { same = refl; so_far = refl })
-
 pub loop-i-preserved : goal.loop-i-preserved
 loop-i-preserved c =
     let l = c.loop-i in
@@ -32,9 +25,9 @@ loop-i-preserved c =
     let inside : l.i < n = omega arith in
     let block = c.args.block.now in (
       omega arith,
-      more on_a n l.i block l.invariant.1 refl c.requires.0 inside c.a-1.given,
-      more on_b n l.i block l.invariant.2 c.requires.1 c.requires.0 inside c.b-1.given,
-      more on_c n l.i block l.invariant.3 c.requires.2 c.requires.0 inside c.c-1.given,
+      more on_a n l.i block l.invariant.1 refl c.requires.0 inside (search rules),
+      more on_b n l.i block l.invariant.2 c.requires.1 c.requires.0 inside (search rules),
+      more on_c n l.i block l.invariant.3 c.requires.2 c.requires.0 inside (search rules),
     )
 
 pub returns : goal.returns

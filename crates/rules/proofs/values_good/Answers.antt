@@ -23,27 +23,6 @@ module _ (n whole v : ℕ) (window marks : List ℕ) (long : length window ≡ 1
   body : {r : Bool} → r ≡ passes (parts n whole v window marks) → r ≡ passes (values_rule n whole (v ∷ (window ++ marks)))
   body e = e ∙ sym (ap₂ (λ (values rest : List ℕ). passes (parts n whole v values rest)) (take_at window marks 120 long) (drop_at window marks 120 long))
 
-pub returns-then-count-gt-LAST_VALUE : goal.returns-then-count-gt-LAST_VALUE
-returns-then-count-gt-LAST_VALUE c =
-    let a = c.args in
-    let n = a.window_length in
-    let v = a.count in
-    let window = a.window.now in
-    let marks = a.marks.now in
-    let whole = flag a.whole in
-    body n whole v window marks c.requires.1 (broken (parts n whole v window marks) (λ h. omega (arith, h.0)))
-
-pub returns-then-not-whole_good : goal.returns-then-not-whole_good
-returns-then-not-whole_good c =
-    let a = c.args in
-    let n = a.window_length in
-    let v = a.count in
-    let window = a.window.now in
-    let marks = a.marks.now in
-    let whole = flag a.whole in
-    body n whole v window marks c.requires.1
-    (broken (parts n whole v window marks) (λ h. rejected (whole_rule whole v) c.whole_good.ensures c.if-not-whole_good.true h.1.0))
-
 pub returns-then-not-places_good : goal.returns-then-not-places_good
 returns-then-not-places_good c =
     let a = c.args in
@@ -66,4 +45,4 @@ returns c =
     let none = accepted (whole_rule whole v) c.whole_good.ensures c.if-not-whole_good.false in
     let values = accepted (places_rule value_most n v window) c.places_good.ensures c.if-not-places_good.false in
     body n whole v window marks c.requires.1
-    (left_over (parts n whole v window marks) (places_rule 1 n v marks) c.marks_good.ensures (λ rest. (omega (arith, c.if-count-gt-LAST_VALUE.false), (none, (values, rest)))) (λ h. h.1.1.1))
+    (left_over (parts n whole v window marks) (places_rule 1 n v marks) c.marks_good.ensures (λ rest. (omega arith, (none, (values, rest)))) (λ h. h.1.1.1))

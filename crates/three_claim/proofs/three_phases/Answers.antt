@@ -1,5 +1,5 @@
--- The claim is proved in `specs/ThreeClaimProof.antt`.
-use Rattle.three_claim.specs.ThreeClaimProof.{three-phases-holds}
+-- The claim is proved in `proofs/ThreeClaimProof.antt`.
+use Rattle.three_claim.proofs.ThreeClaimProof.{three-phases-holds}
 use Rattle.three_claim.proofs.three_phases.Goals as goal
 
 pub returns : goal.returns

@@ -1,17 +1,11 @@
 -- The cut goes by the number of samples alone, and a channel has as many as there are triples.
-use mathlib.Core.Path.{◌≡◌, sym, ◌∙◌}
-use Prim.Native.Nat.{◌/◌}
-use native.Mathlib.Omega.{arith}
-use lib.ListN.{length, take, length-take}
+use Rattle.std.proofs.Common.{◌≡◌, sym, ◌∙◌, ◌/◌, arith, length, take, length-take}
 use Rattle.rms.specs.CutLaws.{cut-length}
 use Rattle.three_reading.specs.Three.{triples_of, channel}
 use Rattle.three_reading.specs.Three.Channel.{on_a}
 use Rattle.three_laws.specs.ChannelLaws.{length-channel}
 use Rattle.three_laws.specs.TriplesLaws.{length-triples}
 use Rattle.three_feed.proofs.cut_of.Goals as goal
-
-pub slice_bounds-cut-end : goal.slice_bounds-cut-end
-slice_bounds-cut-end c = simp length-take (omega arith)
 
 pub returns : goal.returns
 returns c =

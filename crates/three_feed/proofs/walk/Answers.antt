@@ -3,7 +3,7 @@ use Rattle.std.proofs.Common.{◌+◌, ◌^◌, ◌<◌, ◌∙◌, refl, arith}
 use Rattle.three_reading.specs.Three.Channel.{on_a, on_b, on_c}
 use Rattle.joint.specs.Joint.{three_of}
 use Rattle.three_half.specs.HalvesLaws.{sums-fit}
-use Rattle.three_feed.proofs.Walking.{three-long, walk-starts, part-ready, stop-ready, complete-ready, taken-fits, taken-count}
+use Rattle.three_feed.proofs.Walking.{three-long, walk-starts, stop-ready, complete-ready, taken-fits, taken-count}
 use Rattle.three_feed.proofs.Walking.{walk-turns, walk-stops, end-ready, walk_ends}
 use Rattle.three_feed.proofs.walk.Goals as goal
 

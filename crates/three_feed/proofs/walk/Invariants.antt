@@ -1,6 +1,5 @@
 -- The invariant `Walking`: what is fed so far, and the cut of what is left. It starts, turns and ends by the laws of Walking.
-use Prim.Native.Nat.{◌-◌}
-use lib.ListN.{length}
+use Rattle.std.proofs.Common.{◌-◌, length}
 use Rattle.three_reading.specs.Three.{triples_of}
 use Rattle.joint.specs.Joint.{three_of}
 use Rattle.three_feed.proofs.Walking.{Walking}

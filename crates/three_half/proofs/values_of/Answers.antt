@@ -1,5 +1,5 @@
 -- Each channel's value is its own; the mark is by definition that of any.
-use Prim.Native.Nat.{ℕ, ◌≤◌}
+use Rattle.std.proofs.Common.{ℕ, ◌≤◌}
 use Rattle.three_reading.specs.Three.Channel.{on_a, on_b, on_c}
 use Rattle.joint.specs.Joint.{three_of, Small3}
 use Rattle.three_half.specs.Halves.{values_by}

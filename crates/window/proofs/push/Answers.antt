@@ -1,10 +1,7 @@
-use Rattle.std.proofs.Common.{◌≡◌, suc, ◌-◌, false, arith, length-set, le-ltb, lt-ltb}
+use Rattle.std.proofs.Common.{◌≡◌, suc, ◌-◌, false, arith, length-set, le-ltb}
 use Rattle.numbers.specs.Notation.{◌<ᵇ◌}
 use Rattle.window.proofs.Shift.{moved_more, moved-last}
 use Rattle.window.proofs.push.Goals as goal
-
-pub returns-then-count-window_length : goal.returns-then-count-window_length
-returns-then-count-window_length c = rw (lt-ltb _ _ c.if-count-window_length.true)
 
 pub loop-i-preserved : goal.loop-i-preserved
 loop-i-preserved c =

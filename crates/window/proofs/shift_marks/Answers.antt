@@ -1,10 +1,7 @@
-use Rattle.std.proofs.Common.{◌≡◌, suc, ◌-◌, false, arith, length-set, le-ltb, lt-ltb}
+use Rattle.std.proofs.Common.{◌≡◌, suc, ◌-◌, false, arith, length-set, le-ltb}
 use Rattle.numbers.specs.Notation.{◌<ᵇ◌}
 use Rattle.window.proofs.Shift.{moved_more, moved-last}
 use Rattle.window.proofs.shift_marks.Goals as goal
-
-pub returns-then-count-last : goal.returns-then-count-last
-returns-then-count-last c = let a = c.args in rw (lt-ltb a.count a.window_length (omega arith))
 
 pub loop-i-preserved : goal.loop-i-preserved
 loop-i-preserved c =

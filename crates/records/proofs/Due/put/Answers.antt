@@ -1,6 +1,6 @@
--- `Due::put` meets its contract. Each call leaves room for those after it (`length-records_of`), and its record stands behind those before it (`placed-records`).
-use mathlib.Core.Path.{◌≡◌, refl, ap, ◌∙◌}
-use mathlib.Core.List.{List, [], ◌∷◌, ◌++◌, append_assoc}
+-- Each call's record stands behind those before it (`placed-records`).
+use mathlib.Core.Path.{◌≡◌, ap, ◌∙◌}
+use mathlib.Core.List.{List, ◌++◌, append_assoc}
 use Prim.Native.Nat.{ℕ, ◌+◌, ◌*◌}
 use native.Mathlib.Omega.{arith}
 use lib.ListN.{length, length-append}
@@ -9,8 +9,8 @@ use Rattle.reading.specs.Records.{record_bytes}
 use Rattle.reading.specs.Engineer.{over}
 use Rattle.reading.specs.Layout.{record_length}
 use Rattle.threshold.specs.Standing.{list_of}
-use Rattle.records.specs.Due.{records_of, placed}
-use Rattle.records.specs.DueLaws.{length-records_of, placed-records}
+use Rattle.records.specs.Due.{placed}
+use Rattle.records.specs.DueLaws.{placed-records}
 use Rattle.records.proofs.Due.put.Goals as goal
 
 -- the records of four lists, placed one behind the other
@@ -26,50 +26,6 @@ four-placed q₁ q₂ q₃ es₁ es₂ es₃ es₄ b b₁ b₂ b₃ b₄ e₁ e�
     let g₃ = h₃ ∙ placed-records q₂ (es₁ ++ es₂) es₃ b b₂ (omega arith) g₂ in
     let g₄ = h₄ ∙ placed-records q₃ ((es₁ ++ es₂) ++ es₃) es₄ b b₃ (omega arith) g₃ in
     g₄ ∙ ap (λ (es : List Record). over (record_bytes es) b) is
-
--- no record
-none_over : (es : List Record) (b : List ℕ) → length es ≡ 0 → b ≡ over (record_bytes es) b
-none_over [] b h = refl
-none_over (e ∷ es) b h = absurd (omega arith)
-
-pub returns-then-count-eq0 : goal.returns-then-count-eq0
-returns-then-count-eq0 c =
-    let a = c.args in
-    none_over (records_of a.self) a.buffer.now (omega (arith, c.count.ensures, c.if-count-eq0.true))
-
-pub put_ended-after_dip-requires : goal.put_ended-after_dip-requires
-put_ended-after_dip-requires c =
-    omega (arith, length-records_of c.args.self, c.requires)
-
-pub put_ended-after_swell-requires : goal.put_ended-after_swell-requires
-put_ended-after_swell-requires c =
-    omega (arith, length-records_of c.args.self, c.requires, c.put_ended-after_dip.ensures.0, c.put_ended-after_dip.auto)
-
-pub put_ended-after_interruption-requires : goal.put_ended-after_interruption-requires
-put_ended-after_interruption-requires c =
-    omega (
-      arith,
-      length-records_of c.args.self,
-      c.requires,
-      c.put_ended-after_dip.ensures.0,
-      c.put_ended-after_dip.auto,
-      c.put_ended-after_swell.ensures.0,
-      c.put_ended-after_swell.auto,
-    )
-
-pub put_ended-requires : goal.put_ended-requires
-put_ended-requires c =
-    omega (
-      arith,
-      length-records_of c.args.self,
-      c.requires,
-      c.put_ended-after_dip.ensures.0,
-      c.put_ended-after_dip.auto,
-      c.put_ended-after_swell.ensures.0,
-      c.put_ended-after_swell.auto,
-      c.put_ended-after_interruption.ensures.0,
-      c.put_ended-after_interruption.auto,
-    )
 
 pub returns : goal.returns
 returns c =

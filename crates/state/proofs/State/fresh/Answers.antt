@@ -1,7 +1,7 @@
 -- The parts are those of a fresh logger.
 use mathlib.Core.Path.{◌≡◌, sym, subst}
 use Rattle.state.specs.State.{state_with, fresh, ValidState}
-use Rattle.state.specs.StepValid.{fresh-valid}
+use Rattle.state.proofs.StepValid.{fresh-valid}
 use Rattle.state.proofs.State.fresh.Goals as goal
 
 pub returns : goal.returns

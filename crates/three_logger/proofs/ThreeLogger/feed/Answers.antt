@@ -1,7 +1,6 @@
 -- A refused block leaves all as it was; of any other the walk leaves and tells what feed does, by the laws of FeedLaws.
-use Rattle.std.proofs.Common.{sym, arith}
-use Rattle.three_reading.specs.Three.Channel.{on_a, on_b, on_c}
-use Rattle.three_logger.specs.FeedLaws.{feed-refused, feed-fed, taken-within}
+use Rattle.std.proofs.Common.{arith}
+use Rattle.three_logger.proofs.FeedLaws.{feed-refused, feed-fed, taken-within}
 use Rattle.three_logger.proofs.ThreeLogger.feed.Goals as goal
 
 pub returns-then-block-ne0 : goal.returns-then-block-ne0

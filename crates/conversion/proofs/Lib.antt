@@ -1,0 +1,5 @@
+pub mod RowsLaws
+pub mod RecordsLaws
+pub mod ImageConvertedLaws
+pub mod PromisesProof
+pub mod ConversionBenchProof

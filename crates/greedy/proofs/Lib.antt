@@ -1,0 +1,7 @@
+pub mod GreedyLaws
+pub mod GreatestLaws
+pub mod GreedyFollows
+pub mod CutterLaws
+pub mod ProgressLaws
+pub mod ToldLaws
+pub mod AllFedLaws

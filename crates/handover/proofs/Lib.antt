@@ -1,0 +1,2 @@
+pub mod ClaimProof
+pub mod Demand2Proof

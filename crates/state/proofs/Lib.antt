@@ -1,0 +1,4 @@
+pub mod StepLaws
+pub mod StepFollows
+pub mod StepValid
+pub mod CallsLaws
