@@ -33,8 +33,9 @@ export PKG_CONFIG_FILE
 
 all: $(LIBRARY)
 
+# For every x86-64 processor: the compiler's own choice is a later one.
 $(LIBRARY): $(CODE)
-	cd crates/host && rt lib
+	cd crates/host && rt lib --cpu=x86-64
 	install -D -m 644 crates/host/out/libhost.a $@
 
 # rt builds a program and runs it: here on nothing.
