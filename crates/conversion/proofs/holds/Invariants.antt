@@ -1,6 +1,6 @@
 -- What is left after i divisions by 256 is below 256 to the power of what is left of the width, exactly where the number is below 256 to the power of the width.
 use mathlib.Core.Path.{◌≡◌}
-use Prim.Native.Nat.{◌-◌, ◌^◌, ◌≤◌, ◌<◌}
+use Prim.Native.Nat.{◌-◌, ◌^◌, ◌≤◌}
 use Rattle.numbers.specs.Notation.{◌<ᵇ◌}
 use Rattle.conversion.proofs.holds.Given as goal
 

@@ -1,5 +1,5 @@
 -- The four parts stand one behind the other: the table, settings and gatherer as they are, the values and the events with their other widths.
-use mathlib.Core.Path.{◌≡◌, refl, sym, ◌∙◌, ap, ap₂}
+use mathlib.Core.Path.{◌≡◌, refl, ◌∙◌, ap, ap₂}
 use mathlib.Core.List.{List, ◌++◌, append_assoc}
 use Prim.Native.Nat.{ℕ, ◌+◌, ◌-◌, ◌*◌}
 use native.Mathlib.Omega.{arith}
@@ -12,7 +12,7 @@ use Rattle.reading.specs.Layout.{gatherer_offset, gatherer_length, values_widths
 use Rattle.reading.specs.Image.{table_with}
 use Rattle.reading.specs.Restore.{part, settings_part}
 use Rattle.conversion.specs.Conversion.{image_as}
-use Rattle.conversion.specs.ImageAsLaws.{length-image_as, values_as, events_as, values-long}
+use Rattle.conversion.specs.ImageAsLaws.{values_as, events_as, values-long}
 use Rattle.conversion.proofs.put_image.Goals as goal
 
 -- settings and gatherer stand side by side

@@ -3,7 +3,6 @@ use mathlib.Core.List.{List}
 use Prim.Native.Nat.{ℕ, ◌-◌, ◌≤◌}
 use native.Mathlib.Omega.{arith}
 use lib.ListN.{length, length-take, length-drop}
-use borrow.Author.Rules.{rules}
 use Rattle.octets.specs.Bytes.{row}
 use Rattle.conversion.proofs.RowsLaws.{row-asked, row_read, length_at, one-put, all-put}
 use Rattle.conversion.proofs.put_records.Goals as goal

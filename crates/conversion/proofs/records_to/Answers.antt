@@ -1,7 +1,5 @@
 -- Each way out is a law of RowsLaws; the tests on both sides are the same but for the room, which the code asks of numbers of records.
 use mathlib.Core.Path.{refl, sym, ◌∙◌, ap}
-use borrow.Author.Rules.{rules}
-use borrow.Author.Tests.{not-true, not-false}
 use Rattle.conversion.specs.Conversion.{converted_to}
 use Rattle.conversion.proofs.RowsLaws.{has_room, not-whole, not_good, not-fit, no_room, all-converted}
 use Rattle.conversion.proofs.records_to.Goals as goal

@@ -1,8 +1,7 @@
 use mathlib.Core.Path.{refl, ◌∙◌, ap, ap₂}
 use mathlib.Core.List.{List}
-use Prim.Native.Nat.{ℕ, ◌-◌}
+use Prim.Native.Nat.{ℕ}
 use native.Mathlib.Omega.{arith}
-use borrow.Author.Rules.{rules}
 use Rattle.reading.specs.Layout.{record_widths_with}
 use Rattle.conversion.specs.Conversion.{fits, good_row}
 use Rattle.conversion.proofs.RowsLaws.{row-asked, row_read, all_more, all_tested}

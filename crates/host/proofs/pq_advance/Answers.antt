@@ -1,4 +1,5 @@
 -- Restore's answer, then the tests in 01's order; each way out is a law of Answers.
+use native.Mathlib.Omega.{arith}
 use Rattle.host.proofs.Answers.{image-refused, odd_refused, next-refused, reply-refused, all_done}
 use Rattle.host.proofs.pq_advance.Goals as goal
 
@@ -17,7 +18,7 @@ pub returns-then-reply-lt-REPLY_LENGTH : goal.returns-then-reply-lt-REPLY_LENGTH
 returns-then-reply-lt-REPLY_LENGTH c =
     let a = c.args in
     reply-refused a.image.now a.samples.now a.next.now a.records.now a.reply.now c.resume-resumed.ensures c.in-Accepted.is c.if-samples-ne0.false
-    c.if-next-lt-IMAGE_LENGTH.false c.if-reply-lt-REPLY_LENGTH.true
+    (omega arith) c.if-reply-lt-REPLY_LENGTH.true
 
 pub returns-in-Refused : goal.returns-in-Refused
 returns-in-Refused c =
@@ -29,4 +30,4 @@ returns-else-reply-lt-REPLY_LENGTH c =
     let a = c.args in
     let fed = c.feed_chunks-fed in
     all_done a.image.now a.samples.now a.next.now a.records.now a.reply.now c.resume-resumed.ensures c.in-Accepted.is c.if-samples-ne0.false
-    c.if-next-lt-IMAGE_LENGTH.false c.if-reply-lt-REPLY_LENGTH.false fed.result.logger.state fed.result.told _ _ _ _ fed.ensures c.put_reply.ensures c.save.ensures
+    (omega arith) c.if-reply-lt-REPLY_LENGTH.false fed.result.logger.state fed.result.told _ _ _ _ fed.ensures c.put_reply.ensures c.save.ensures

@@ -1,4 +1,5 @@
 -- Behind each call stands what restore leaves by that call's answer, and each way out is one of the answers.
+use native.Mathlib.Omega.{arith}
 use mathlib.Core.Path.{◌≡◌, sym, ◌∙◌, ap}
 use mathlib.Core.List.{List}
 use Prim.Native.Nat.{ℕ}
@@ -58,7 +59,7 @@ returns-in_default c =
     let old = c.args.old in
     let b = c.args.bytes.now in
     let t = c.read_table.result in
-    let table = by_table_read old b t c.if-bytes-ne-IMAGE_LENGTH.false c.read_table.ensures in
+    let table = by_table_read old b t (omega arith) c.read_table.ensures in
     c.refused-in_default.ensures ∙ sym (table ∙ ap (λ (k : Verdict). by-table old b (table_number k)) c.in_default.is)
 
 pub returns-in_default-from_bytes : goal.returns-in_default-from_bytes
@@ -67,7 +68,7 @@ returns-in_default-from_bytes c =
     let b = c.args.bytes.now in
     let t = c.read_table.result in
     let q = c.from_bytes.result in
-    let table = by_table_read old b t c.if-bytes-ne-IMAGE_LENGTH.false c.read_table.ensures in
+    let table = by_table_read old b t (omega arith) c.read_table.ensures in
     let settings = by_settings_read old b t q table c.in-Good.is c.from_bytes.ensures in
     c.refused-in_default-from_bytes.ensures ∙ sym (settings ∙ ap (λ (k : SettingsRead). by-settings old b (settings_told k)) c.in_default-from_bytes.is)
 
@@ -78,7 +79,7 @@ returns-in_default-read_gatherer c =
     let t = c.read_table.result in
     let q = c.from_bytes.result in
     let s = c.in-Read.settings in
-    let table = by_table_read old b t c.if-bytes-ne-IMAGE_LENGTH.false c.read_table.ensures in
+    let table = by_table_read old b t (omega arith) c.read_table.ensures in
     let settings = by_settings_read old b t q table c.in-Good.is c.from_bytes.ensures in
     let gatherer = by_gatherer_read old b q s c.read_gatherer.result settings c.in-Read.is c.read_gatherer.ensures in
     c.refused-in_default-read_gatherer.ensures
@@ -93,7 +94,7 @@ returns-in_default-verdict c =
     let s = c.in-Read.settings in
     let g = c.in-Read-read_gatherer.gatherer in
     let w = c.read_window-read.result in
-    let table = by_table_read old b t c.if-bytes-ne-IMAGE_LENGTH.false c.read_table.ensures in
+    let table = by_table_read old b t (omega arith) c.read_table.ensures in
     let settings = by_settings_read old b t q table c.in-Good.is c.from_bytes.ensures in
     let gatherer = by_gatherer_read old b q s c.read_gatherer.result settings c.in-Read.is c.read_gatherer.ensures in
     let window = by_window_read old b s c.read_gatherer.result g w gatherer c.in-Read-read_gatherer.is c.read_window-read.ensures in
@@ -109,7 +110,7 @@ returns-in_default-read_detector c =
     let g = c.in-Read-read_gatherer.gatherer in
     let w = c.read_window-read.result in
     let d = c.read_detector.result in
-    let table = by_table_read old b t c.if-bytes-ne-IMAGE_LENGTH.false c.read_table.ensures in
+    let table = by_table_read old b t (omega arith) c.read_table.ensures in
     let settings = by_settings_read old b t q table c.in-Good.is c.from_bytes.ensures in
     let gatherer = by_gatherer_read old b q s c.read_gatherer.result settings c.in-Read.is c.read_gatherer.ensures in
     let window = by_window_read old b s c.read_gatherer.result g w gatherer c.in-Read-read_gatherer.is c.read_window-read.ensures in
@@ -128,7 +129,7 @@ returns c =
     let w = c.read_window-read.result in
     let d = c.read_detector.result in
     let told = c.read_window-read.ensures in
-    let table = by_table_read old b t c.if-bytes-ne-IMAGE_LENGTH.false c.read_table.ensures in
+    let table = by_table_read old b t (omega arith) c.read_table.ensures in
     let settings = by_settings_read old b t q table c.in-Good.is c.from_bytes.ensures in
     let gatherer = by_gatherer_read old b q s c.read_gatherer.result settings c.in-Read.is c.read_gatherer.ensures in
     let window = by_window_read old b s c.read_gatherer.result g w gatherer c.in-Read-read_gatherer.is told in
