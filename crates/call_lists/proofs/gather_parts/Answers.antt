@@ -1,5 +1,5 @@
 -- A share more.
-use Rattle.std.proofs.Common.{◌+◌, ◌-◌, arith, length, take, drop, length-take, length-drop}
+use Rattle.std.proofs.Common.{◌+◌, arith, length-take, length-drop}
 use Rattle.call_lists.proofs.Gathering.{parting, none-valid, half-valid}
 use Rattle.call_lists.proofs.gather_parts.Goals as goal
 

@@ -1,5 +1,5 @@
 -- The lines of the first i records are put at the text's start, of 97 bytes each at most.
-use Rattle.std.proofs.Common.{◌-◌, ◌*◌, ◌≤◌, length}
+use Rattle.std.proofs.Common.{◌-◌, ◌*◌, ◌≤◌}
 use Rattle.event_lines.specs.Text.{lines_of, Put}
 use Rattle.event_lines.proofs.put_lines.Given as goal
 

@@ -1,7 +1,7 @@
 -- A feed is a turn: what it writes has room, and what it leaves is the rest.
-use Rattle.std.proofs.Common.{◌≡◌, ◌+◌, ◌<◌, ℕ, ap, sym, ◌∙◌, arith}
+use Rattle.std.proofs.Common.{◌+◌, ◌<◌, ℕ, ap, ◌∙◌, arith}
 use Rattle.std.proofs.Math.Path.{subst⁻¹}
-use Rattle.greedy.proofs.AllFedLaws.{to_feed, rest_by, rest-none}
+use Rattle.greedy.proofs.AllFedLaws.{to_feed, rest_by}
 use Rattle.state.specs.Step.{machine}
 use Rattle.event_log.specs.FedAllLaws.{fed-turn}
 use Rattle.event_log.proofs.feed_all.Goals as goal

@@ -1,5 +1,5 @@
 -- A feed is a turn, told in samples: what it writes has room, and what it leaves is the rest.
-use Rattle.std.proofs.Common.{◌≡◌, ◌+◌, ◌/◌, ◌<◌, ℕ, ap, ◌∙◌, arith}
+use Rattle.std.proofs.Common.{◌+◌, ◌/◌, ◌<◌, ℕ, ap, ◌∙◌, arith}
 use Rattle.std.proofs.Math.Path.{subst⁻¹}
 use Rattle.greedy.proofs.AllFedLaws.{to_feed, rest_by}
 use Rattle.three_reading.specs.Three.{triples_of}

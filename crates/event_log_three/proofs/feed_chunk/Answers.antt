@@ -1,5 +1,5 @@
 -- The samples of a chunk's whole triples hold all of its triples.
-use Rattle.std.proofs.Common.{ap, ◌∙◌, arith, rules}
+use Rattle.std.proofs.Common.{ap, ◌∙◌}
 use Rattle.event_log_three.specs.ThreeFedAllLaws.{chunk_whole, chunk-triples}
 use Rattle.event_log_three.specs.ThreeFedAll.{fed_all_from}
 use Rattle.event_log_three.proofs.feed_chunk.Goals as goal
