@@ -161,7 +161,7 @@ def writes_fail(program):
         os.close(end)
         got = program.run(example("worked")[0], stdout=start, restore_signals=default)
         os.close(start)
-        # The event programs ignore the signal themselves.
+        # The event programs ignore the signal: the language's runtime does so before they begin.
         ends = default and program.name == "log"
         want = (-signal.SIGPIPE, None, "") if ends else (program.failed, None, program.message("output", "EPIPE"))
         same(f"{program.name}: closed pipe, SIGPIPE {'ends it' if ends else 'ignored'}", got, want)

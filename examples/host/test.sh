@@ -508,7 +508,7 @@ echo "same: the library is within its bound"
 
 # The stack that docs/INTEGRATION.md promises, in bytes.
 gcc -std=c99 -Wall -Wextra -Werror -O2 -I../include -Wl,-z,now ../bench/stack.c "$LIBRARY" -o "$work/stack"
-"$work/stack" | awk '{ bound = /^begin/ ? 2816 : /^count|^convert 1000/ ? 512 : /^convert an image/ ? 4096 : 7680 }
+"$work/stack" | awk '{ bound = /^begin/ ? 2816 : /^count|^convert 1000/ ? 512 : /^convert an image/ ? 4096 : 7168 }
                      $(NF - 1) > bound { print "stack: " $0; over = 1 }
                      END { exit over || NR == 0 }'
 echo "same: the stack is within its bounds"

@@ -31,11 +31,11 @@ const DAY_REPLY_LENGTH: usize = 32;
 const DAY_REPLY_WIDTHS: [u8; 4] = [8; 4];
 
 // How many samples are decoded at a time.
-const CHUNK: usize = 1024;
+const CHUNK: usize = 768;
 
 // The next chunk of the samples that are left.
 fn chunk_of(left: usize) -> usize
-    ensures { result ≡ min left 1024 }
+    ensures { result ≡ min left 768 }
 {
     if left < CHUNK { left } else { CHUNK }
 }
