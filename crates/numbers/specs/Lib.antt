@@ -3,3 +3,4 @@ pub mod NotationLaws
 pub mod Answers
 pub mod AnswersLaws
 pub mod Rules
+pub mod Refusals
