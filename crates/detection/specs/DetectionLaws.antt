@@ -1,5 +1,5 @@
 -- The code's step, from its parts: what joins the window is what the phase's step asks for, and the parts together are `tried_by`.
-use Rattle.std.specs.Prelude.{◌≡◌, Bool, true, false, List, [], ◌∷◌, ℕ, suc, ◌+◌, ◌-◌, ◌≤◌, ◌<◌, take, drop, get_or, if◌then◌else◌}
+use Rattle.std.specs.Prelude.{◌≡◌, Bool, true, false, List, [], ◌∷◌, ℕ, suc, ◌+◌, ◌-◌, ◌≤◌, ◌<◌, take, drop, get_or, if◌then◌else◌, Option}
 use Rattle.std.proofs.Common.{sym, ◌∙◌, arith}
 use Rattle.std.proofs.Math.Path.{ap}
 use Rattle.numbers.specs.Notation.{◌<ᵇ◌, flag}
@@ -9,8 +9,8 @@ use Rattle.settings.specs.Settings.{window_length_of, scaled_of, ValidSettings}
 use Rattle.reading.specs.declared.Kind.TheVariants.{Dip, Swell, Interruption}
 use Rattle.rms.specs.declared.Marked.{Marked}
 use Rattle.reading.specs.Changes.{sum}
+use Rattle.reading.specs.declared.Record.{Record}
 use Rattle.threshold.specs.declared.Standing.{Standing}
-use Rattle.threshold.specs.declared.Ended.{Ended}
 use Rattle.threshold.specs.Standing.{begins_at, ends_at, stepped, ended_at}
 use Rattle.window.specs.declared.Sums.{Sums}
 use Rattle.window.specs.Window.{pushed, staying, leaving, ValidWindow}
@@ -116,7 +116,7 @@ module _ {s : Settings} {t : Scaled} {d : Detector} {w ms : List ℕ} {a : Sums}
   pub phase-joins : {stands : Stands} {joined : Joined} → joined ≡ joined_of n d.count w ms y stands → Joins t n joined.joining d.phase
   phase-joins e = joins-ready ready.settings-valid ready.scaled-is ready.window-ready n-is (ap (λ (k : Joined). k.joining) e) d.phase
 
-  pub tried-is : {i : ℕ} {stands : Stands} {dip swell interruption : Standing} {joined : Joined} {moved : Moved} {e₁ e₂ e₃ : Ended} →
+  pub tried-is : {i : ℕ} {stands : Stands} {dip swell interruption : Standing} {joined : Joined} {moved : Moved} {e₁ e₂ e₃ : Option Record} →
       i ≡ suc d.count →
       dip ≡ stepped Dip i y.value y.clipped (begins_at Dip t.dip y.value) (ends_at Dip t.dip y.value) d.dip →
       swell ≡ stepped Swell i y.value y.clipped (begins_at Swell t.swell y.value) (ends_at Swell t.swell y.value) d.swell →

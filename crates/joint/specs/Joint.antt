@@ -1,6 +1,6 @@
 -- One value of each of three channels: the step of the joint events, of each channel's own signal, and of each channel's phase under the joint signal. And what a
 -- history of three channels and its marks leave.
-use Rattle.std.specs.Prelude.{◌≡◌, Bool, true, false, ◌&&◌, ◌||◌, List, map, ℕ, suc, max, ◌≤◌, ◌<◌, length, if◌then◌else◌}
+use Rattle.std.specs.Prelude.{◌≡◌, Bool, true, false, ◌&&◌, ◌||◌, List, map, ℕ, suc, max, ◌≤◌, ◌<◌, length, if◌then◌else◌, Option, Some, None}
 use Rattle.numbers.specs.Notation.{flag}
 use Rattle.settings.specs.declared.Settings.{Settings}
 use Rattle.settings.specs.declared.Scaled.{Scaled}
@@ -17,8 +17,6 @@ use Rattle.reading.specs.Restore.{value_most}
 use Rattle.reading.specs.Feed.{last_value}
 use Rattle.rms.specs.declared.Marked.{Marked}
 use Rattle.threshold.specs.declared.Standing.{Standing}
-use Rattle.threshold.specs.declared.Ended.{Ended}
-use Rattle.threshold.specs.declared.Ended.TheVariants.{Nothing, Over}
 use Rattle.threshold.specs.Standing.{begins_at, ends_at, no_event, stepped, ended_at, magnitude_since, ValidStanding}
 use Rattle.window.specs.declared.Sums.{Sums}
 use Rattle.window.specs.Window.{pushed, window_of, ValidWindow}
@@ -107,10 +105,10 @@ worse_record x y =
     let worse : Event = record { kind = e.kind; start = e.start; duration = e.duration; first = max e.first f.first; second = max e.second f.second } in
     record { event = worse; clipped = x.clipped || y.clipped }
 
-abbrev pub worse_ended : Ended → Ended → Ended
-worse_ended Nothing e = Nothing
-worse_ended (Over x) Nothing = Nothing
-worse_ended (Over x) (Over y) = Over (worse_record x y)
+abbrev pub worse_ended : Option Record → Option Record → Option Record
+worse_ended None e = None
+worse_ended (Some x) None = None
+worse_ended (Some x) (Some y) = Some (worse_record x y)
 
 -- value r of a channel after v values, whose window is w: the own signal at it, and what joins the window
 abbrev pub own_signal : Settings → ℕ → List ℕ → ℕ → Signal → Signal

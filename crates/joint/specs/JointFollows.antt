@@ -1,5 +1,5 @@
 -- One value of each channel follows the history of three: stepped by it, what is kept is what the longer history leaves, and the records due are the reading's.
-use Rattle.std.specs.Prelude.{◌≡◌, refl, Bool, true, false, ◌&&◌, ◌||◌, List, [], ◌∷◌, ◌++◌, map, ℕ, suc, ◌+◌, ◌-◌, ◌≤◌, ◌<◌, max, length, drop, if◌then◌else◌}
+use Rattle.std.specs.Prelude.{◌≡◌, refl, Bool, true, false, ◌&&◌, ◌||◌, List, [], ◌∷◌, ◌++◌, map, ℕ, suc, ◌+◌, ◌-◌, ◌≤◌, ◌<◌, max, length, drop, if◌then◌else◌, Option, Some, None}
 use Rattle.std.proofs.Math.Path.{sym, ap₂}
 use Rattle.std.proofs.Common.{◌∙◌, ap, subst, arith}
 use Rattle.std.proofs.lemmas.List.{length-map, map-append}
@@ -15,8 +15,6 @@ use Rattle.reading.specs.Clipping.{clipped_from, record_of}
 use Rattle.reading.specs.Thresholds.{kind_number, magnitude}
 use Rattle.reading.specs.Changes.{window_sum, gap, Signal, signal, sum_before, greatest_difference}
 use Rattle.reading.specs.Changes.Signal.{filling, unsettled, steady, changing}
-use Rattle.threshold.specs.declared.Ended.{Ended}
-use Rattle.threshold.specs.declared.Ended.TheVariants.{Nothing, Over}
 use Rattle.threshold.specs.Standing.{since_after, stepped, ended_at, list_of}
 use Rattle.threshold.specs.StandingFollows.{since-follows, since-ended}
 use Rattle.window.specs.Window.{window_of}
@@ -89,8 +87,8 @@ module _ (s : Settings) (hist : List (Three ℕ)) (ms : List ℕ) (beside : leng
   }
 
   -- as one channel has it, dropped or not
-  abbrev over : Channel → Bool → Ended
-  over c b = if b then Nothing else Over (record { event = change_up_to s (channel c hist) k; clipped = clipped_from s k ms })
+  abbrev over : Channel → Bool → Option Record
+  over c b = if b then None else Some (record { event = change_up_to s (channel c hist) k; clipped = clipped_from s k ms })
 
   dropped-is : (c : Channel) → dropped s (channel c hist) stand ≡ drops
   dropped-is c =
@@ -115,7 +113,7 @@ module _ (s : Settings) (hist : List (Three ℕ)) (ms : List ℕ) (beside : leng
         clipped = (same-three (clipped_from s k ms) ∙ settled-mark s k (length hist) ms beside late) j;
       } ∷ []
 
-  change-listed : let ended : Channel → Ended = λ c. change_ended s (channel c hist) ms k stand in
+  change-listed : let ended : Channel → Option Record = λ c. change_ended s (channel c hist) ms k stand in
       list_of (worse_ended (ended on_a) (worse_ended (ended on_b) (ended on_c))) ≡ map (record_of ms) (joint_change_event s k hist)
   change-listed =
       (λ j. list_of (worse_ended (over on_a (dropped-is on_a j)) (worse_ended (over on_b (dropped-is on_b j)) (over on_c (dropped-is on_c j)))))
@@ -250,7 +248,7 @@ module _ (s : Settings) (r : Three ℕ) (older : List (Three ℕ)) (clipped : Bo
         ∙ ended-under s (at c r) own clipped ms beside-own stands (from older) (from hist) begun grows b was valid
 
   -- the change that ends: of the three, each magnitude by itself the worse
-  abbrev worst-ended : (Channel → Ended) → List Record
+  abbrev worst-ended : (Channel → Option Record) → List Record
   worst-ended e = list_of (worse_ended (e on_a) (worse_ended (e on_b) (e on_c)))
 
   change-over : (p : Signal) (b : Bool) → was ≡ p → all_true s hist ≡ b →

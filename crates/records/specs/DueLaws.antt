@@ -1,5 +1,5 @@
 -- Records in bytes, one behind the other, and how many are due at one value.
-use Rattle.std.specs.Prelude.{◌≡◌, refl, List, [], ◌∷◌, ◌++◌, ℕ, ◌+◌, ◌*◌, ◌≤◌, length, take, drop}
+use Rattle.std.specs.Prelude.{◌≡◌, refl, List, [], ◌∷◌, ◌++◌, ℕ, ◌+◌, ◌*◌, ◌≤◌, length, take, drop, Option, Some, None}
 use Rattle.std.proofs.Common.{sym, ◌∙◌, ap, append_assoc, arith, length-append, take_at, drop_at, drop-drop}
 use Rattle.octets.specs.Bytes.{row}
 use Rattle.octets.specs.RowLaws.{length-row}
@@ -7,8 +7,6 @@ use Rattle.reading.specs.declared.Record.{Record}
 use Rattle.reading.specs.Records.{record_bytes, record_numbers}
 use Rattle.reading.specs.Engineer.{over}
 use Rattle.reading.specs.Layout.{record_widths, record_length}
-use Rattle.threshold.specs.declared.Ended.{Ended}
-use Rattle.threshold.specs.declared.Ended.TheVariants.{Nothing, Over}
 use Rattle.threshold.specs.Standing.{list_of}
 use Rattle.records.specs.declared.Due.{Due}
 use Rattle.records.specs.Due.{records_of, placed}
@@ -27,9 +25,9 @@ pub length-records_of : (d : Due)
     → length (records_of d) ≡ length (list_of d.dip) + (length (list_of d.swell) + (length (list_of d.interruption) + length (list_of d.change)))
 length-records_of d = simp length-append
 
-list_of-one : (e : Ended) → length (list_of e) ≤ 1
-list_of-one Nothing = omega arith
-list_of-one (Over e) = omega arith
+list_of-one : (e : Option Record) → length (list_of e) ≤ 1
+list_of-one None = omega arith
+list_of-one (Some e) = omega arith
 
 pub records_of-most : (d : Due) → length (records_of d) ≤ 4
 records_of-most d = omega (arith, length-records_of d, list_of-one d.dip, list_of-one d.swell, list_of-one d.interruption, list_of-one d.change)

@@ -9,7 +9,6 @@ ghost use Rattle.threshold.specs.Standing.{list_of};
 ghost use Rattle.records.specs.Due.{records_of, placed};
 
 use reading::{Event, Record};
-use threshold::Ended;
 
 // A record: kind, mark, zero bytes, start, duration, first and second magnitude.
 pub const RECORD_LENGTH: usize = 28;
@@ -19,10 +18,10 @@ const WIDTHS: [u8; 7] = [1, 1, 2, 8, 8, 4, 4];
 // The records due at one value, by kind.
 #[derive(Clone, Copy)]
 pub struct Due {
-    pub dip: Ended,
-    pub swell: Ended,
-    pub interruption: Ended,
-    pub change: Ended,
+    pub dip: Option<Record>,
+    pub swell: Option<Record>,
+    pub interruption: Option<Record>,
+    pub change: Option<Record>,
 }
 
 // Writes a record into its part of a buffer.
@@ -62,13 +61,13 @@ pub fn get_record(bytes: &[u8]) -> Event
 }
 
 // Writes the record of an event that is over, if one is, from a place of a buffer on; the place after it.
-fn put_ended(ended: Ended, buffer: &mut [u8], at: usize) -> usize
+fn put_ended(ended: Option<Record>, buffer: &mut [u8], at: usize) -> usize
     requires { at + record_length * length (list_of ended) ≤ length buffer.old }
     ensures { (result ≡ at + record_length * length (list_of ended)) × (buffer.new ≡ placed at (record_bytes (list_of ended)) buffer.old) }
 {
     match ended {
-        Ended::Nothing => at,
-        Ended::Over(record) => {
+        None => at,
+        Some(record) => {
             let end = at + RECORD_LENGTH;
             put_record(&mut buffer[at..end], record);
             end
@@ -76,12 +75,12 @@ fn put_ended(ended: Ended, buffer: &mut [u8], at: usize) -> usize
     }
 }
 
-fn count_of(ended: Ended) -> usize
+fn count_of(ended: Option<Record>) -> usize
     ensures { (result ≡ length (list_of ended)) × (result ≤ 1) }
 {
     match ended {
-        Ended::Nothing => 0,
-        Ended::Over(_) => 1,
+        None => 0,
+        Some(_) => 1,
     }
 }
 

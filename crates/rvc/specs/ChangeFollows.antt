@@ -1,6 +1,6 @@
 -- What a change in progress carries follows the history, whatever signal it stands under: its sum stays, its greatest difference and its mark grow by the value
 -- that leaves the window, the stand that it keeps as it is told. What begins with a value is the reading's change there, and what ends is the reading's event.
-use Rattle.std.specs.Prelude.{◌≡◌, refl, Bool, true, false, ◌||◌, List, [], ◌∷◌, map, ℕ, zero, suc, ◌+◌, ◌-◌, ◌*◌, ◌≤◌, ◌<◌, max, length, take, drop, get_or, if◌then◌else◌}
+use Rattle.std.specs.Prelude.{◌≡◌, refl, Bool, true, false, ◌||◌, List, [], ◌∷◌, map, ℕ, zero, suc, ◌+◌, ◌-◌, ◌*◌, ◌≤◌, ◌<◌, max, length, take, drop, get_or, if◌then◌else◌, Some, None}
 use Rattle.std.proofs.Common.{sym, ◌∙◌, ap, arith, length-drop, drop-cons, ltb-true, ltb-false}
 use Rattle.settings.specs.declared.Settings.{Settings}
 use Rattle.numbers.specs.Notation.{◌<ᵇ◌, ◌≡ᵇ◌, flag}
@@ -11,7 +11,6 @@ use Rattle.reading.specs.Clipping.{any_marked, clipped_from, record_of}
 use Rattle.reading.specs.Changes.{window_sum, gap, first_stand, dip_or_swell, stood_before, sum_before, farthest, greatest_difference, change_event}
 use Rattle.reading.specs.Image.{stand_number}
 use Rattle.reading_laws.specs.SignalLaws.{up_to-older}
-use Rattle.threshold.specs.declared.Ended.TheVariants.{Nothing, Over}
 use Rattle.threshold.specs.Standing.{list_of}
 use Rattle.window.specs.Window.{window_of}
 use Rattle.window.specs.WindowLaws.{leaving-full}
@@ -156,7 +155,7 @@ module _ (s : Settings) (hist ms : List ℕ) (beside : length ms ≡ length hist
       list_of (change_ended s hist ms k f) ≡ map (record_of ms) (if dropped s hist f then [] else change_up_to s hist k ∷ [])
   ended-listed k f full = listed (dropped s hist f)
     where
-      listed : (b : Bool) → list_of (if b then Nothing else Over (record { event = change_up_to s hist k; clipped = clipped_from s k ms }))
+      listed : (b : Bool) → list_of (if b then None else Some (record { event = change_up_to s hist k; clipped = clipped_from s k ms }))
           ≡ map (record_of ms) (if b then [] else change_up_to s hist k ∷ [])
       listed true = refl
       listed false = λ j. record { event = change_up_to s hist k; clipped = settled-mark s k (length hist) ms beside full j } ∷ []

@@ -1,5 +1,5 @@
 -- One value's step of the phase, under any signal and under its own, and what a history and its marks leave of it.
-use Rattle.std.specs.Prelude.{Bool, true, false, ◌&&◌, ◌||◌, List, [], ◌∷◌, ℕ, suc, ◌-◌, ◌*◌, ◌≤◌, max, length, take, if◌then◌else◌}
+use Rattle.std.specs.Prelude.{Bool, true, false, ◌&&◌, ◌||◌, List, [], ◌∷◌, ℕ, suc, ◌-◌, ◌*◌, ◌≤◌, max, length, take, if◌then◌else◌, Option, Some, None}
 use Rattle.numbers.specs.Notation.{◌≤ᵇ◌, ◌<ᵇ◌, ◌≡ᵇ◌, flag}
 use Rattle.numbers.specs.Rules.{Holds}
 use Rattle.settings.specs.declared.Settings.{Settings}
@@ -7,14 +7,13 @@ use Rattle.settings.specs.declared.Scaled.{Scaled}
 use Rattle.settings.specs.Settings.{window_length_of}
 use Rattle.reading.specs.declared.Kind.TheVariants.{Dip, Swell}
 use Rattle.reading.specs.declared.Event.{Event}
+use Rattle.reading.specs.declared.Record.{Record}
 use Rattle.reading.specs.Clipping.{clipped_from}
 use Rattle.reading.specs.Thresholds.{stands_since}
 use Rattle.reading.specs.Changes.{sum, window_sum, gap, Signal as ReadSignal, signal, dip_or_swell, sum_before, greatest_difference}
 use Rattle.reading.specs.Changes.Signal.{filling, unsettled, steady, changing}
 use Rattle.reading.specs.Image.{stand_number}
 use Rattle.reading.specs.Restore.{change_rule, phase_rule}
-use Rattle.threshold.specs.declared.Ended.{Ended}
-use Rattle.threshold.specs.declared.Ended.TheVariants.{Nothing, Over}
 use Rattle.window.specs.Window.{pushed, leaving, window_of}
 use Rattle.rvc.specs.declared.Change.{Change}
 use Rattle.rvc.specs.declared.Phase.{Phase}
@@ -50,11 +49,11 @@ grown n j c = record {
 }
 
 -- the record of one that is over with j; none where the stand that it keeps is before the window
-abbrev pub closing : ℕ → Joining → Change → Ended
+abbrev pub closing : ℕ → Joining → Change → Option Record
 closing n j c =
     let settled = j.number - n in
     let e : Event = record { kind = 4; start = c.start; duration = settled - c.start; first = c.difference; second = gap j.after c.sum } in
-    if 0 <ᵇ c.stand && c.stand ≤ᵇ settled then Nothing else Over (record { event = e; clipped = c.clipped })
+    if 0 <ᵇ c.stand && c.stand ≤ᵇ settled then None else Some (record { event = e; clipped = c.clipped })
 
 -- after a value at which the signal is false; and the record that ends with one at which it is true
 abbrev pub onward : ℕ → Joining → Phase → Phase
@@ -63,15 +62,15 @@ onward n j Unsettled = Unsettled
 onward n j Steady = Changing (change_from j)
 onward n j (Changing c) = Changing (grown n j c)
 
-abbrev pub ended_of : ℕ → Joining → Phase → Ended
-ended_of n j Filling = Nothing
-ended_of n j Unsettled = Nothing
-ended_of n j Steady = Nothing
+abbrev pub ended_of : ℕ → Joining → Phase → Option Record
+ended_of n j Filling = None
+ended_of n j Unsettled = None
+ended_of n j Steady = None
 ended_of n j (Changing c) = closing n j (grown n j c)
 
 -- the phase after the value j, at which the signal is true or not, and the record that ends with it
 abbrev pub moved_by : ℕ → Joining → Bool → Phase → Moved
-moved_by n j is_steady p = record { phase = if is_steady then Steady else onward n j p; ended = if is_steady then ended_of n j p else Nothing }
+moved_by n j is_steady p = record { phase = if is_steady then Steady else onward n j p; ended = if is_steady then ended_of n j p else None }
 
 -- the same under its own signal, as the code tests it, where part are the other values of the window
 abbrev pub moved_on : Scaled → ℕ → List ℕ → Joining → Phase → Moved
@@ -121,14 +120,14 @@ change_up_to s hist k =
 abbrev pub dropped : Settings → List ℕ → ℕ → Bool
 dropped s hist f = 0 <ᵇ f && f ≤ᵇ length hist - window_length_of s
 
-abbrev pub change_ended : Settings → List ℕ → List ℕ → ℕ → ℕ → Ended
-change_ended s hist ms k f = if dropped s hist f then Nothing else Over (record { event = change_up_to s hist k; clipped = clipped_from s k ms })
+abbrev pub change_ended : Settings → List ℕ → List ℕ → ℕ → ℕ → Option Record
+change_ended s hist ms k f = if dropped s hist f then None else Some (record { event = change_up_to s hist k; clipped = clipped_from s k ms })
 
-abbrev pub ended_under : Settings → List ℕ → List ℕ → (ℕ → ℕ) → Bool → ReadSignal → Ended
-ended_under s hist ms stand false p = Nothing
-ended_under s hist ms stand true filling = Nothing
-ended_under s hist ms stand true unsettled = Nothing
-ended_under s hist ms stand true steady = Nothing
+abbrev pub ended_under : Settings → List ℕ → List ℕ → (ℕ → ℕ) → Bool → ReadSignal → Option Record
+ended_under s hist ms stand false p = None
+ended_under s hist ms stand true filling = None
+ended_under s hist ms stand true unsettled = None
+ended_under s hist ms stand true steady = None
 ended_under s hist ms stand true (changing k) = change_ended s hist ms k (stand k)
 
 -- whether a dip or a swell first stands at the newest value

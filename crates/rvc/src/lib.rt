@@ -9,7 +9,6 @@ ghost use Rattle.rvc.specs.Phase.{change_from, grown, closing, signal_in, onward
 
 use reading::{Event, Record};
 use settings::Scaled;
-use threshold::Ended;
 
 // The steady signal, with what must be kept of it: fewer than N values; never yet true; true; false since value k.
 #[derive(Clone, Copy)]
@@ -73,7 +72,7 @@ pub struct Joining {
 #[derive(Clone, Copy)]
 pub struct Moved {
     pub phase: Phase,
-    pub ended: Ended,
+    pub ended: Option<Record>,
 }
 
 // |a − b|.
@@ -220,12 +219,12 @@ impl Change {
     }
 
     // Its record, over with a value; none where the stand that is kept is before the window.
-    fn event(self, window_length: u64, joining: Joining) -> Ended
+    fn event(self, window_length: u64, joining: Joining) -> Option<Record>
         ensures { result ≡ closing window_length joining self }
     {
         let settled = numbers::minus(joining.number, window_length);
         if (0 < self.stand) & (self.stand <= settled) {
-            return Ended::Nothing;
+            return None;
         }
         let event = Event {
             kind: Event::CHANGE,
@@ -234,7 +233,7 @@ impl Change {
             first: self.difference,
             second: distance(joining.after, self.sum),
         };
-        Ended::Over(Record {
+        Some(Record {
             event,
             clipped: self.clipped,
         })
@@ -274,14 +273,14 @@ impl Phase {
     }
 
     // The record of a change that ends with a value, at which the signal is true.
-    fn ended(self, window_length: u64, joining: Joining) -> Ended
+    fn ended(self, window_length: u64, joining: Joining) -> Option<Record>
         requires { (window_length ≤ 120) × (joining.leaving ≤ 524288) }
         ensures { result ≡ ended_of window_length joining self }
     {
         match self {
-            Phase::Filling => Ended::Nothing,
-            Phase::Unsettled => Ended::Nothing,
-            Phase::Steady => Ended::Nothing,
+            Phase::Filling => None,
+            Phase::Unsettled => None,
+            Phase::Steady => None,
             Phase::Changing(change) => change
                 .with_value(window_length, joining)
                 .event(window_length, joining),
@@ -301,10 +300,7 @@ impl Phase {
             };
         }
         let phase = self.onward(window_length, joining);
-        Moved {
-            phase,
-            ended: Ended::Nothing,
-        }
+        Moved { phase, ended: None }
     }
 
     // After a value, the newest of a window whose other values are `part`, under its own signal.

@@ -1,5 +1,5 @@
 -- One value's step of a dip, a swell or an interruption, and what a history and its marks leave of it.
-use Rattle.std.specs.Prelude.{Bool, false, ◌&&◌, ◌||◌, List, [], ◌∷◌, ℕ, zero, suc, ◌-◌, ◌*◌, min, max, if◌then◌else◌}
+use Rattle.std.specs.Prelude.{Bool, false, ◌&&◌, ◌||◌, List, [], ◌∷◌, ℕ, zero, suc, ◌-◌, ◌*◌, min, max, if◌then◌else◌, Option, Some, None}
 use Rattle.settings.specs.declared.Settings.{Settings}
 use Rattle.settings.specs.declared.Threshold.{Threshold}
 use Rattle.numbers.specs.Notation.{◌≤ᵇ◌, ◌<ᵇ◌, ◌≡ᵇ◌, flag}
@@ -13,8 +13,6 @@ use Rattle.reading.specs.Clipping.{clipped_since}
 use Rattle.reading.specs.Thresholds.{stands_since, magnitude}
 use Rattle.reading.specs.Restore.{standing_rule}
 use Rattle.threshold.specs.declared.Standing.{Standing}
-use Rattle.threshold.specs.declared.Ended.{Ended}
-use Rattle.threshold.specs.declared.Ended.TheVariants.{Nothing, Over}
 
 -- the two tests against a kind's scaled levels
 abbrev pub begins_at : Kind → Threshold → ℕ → Bool
@@ -52,15 +50,15 @@ abbrev pub since_after : ℕ → Bool → Bool → ℕ → ℕ
 since_after i begins ends before = if begins then (if before ≡ᵇ 0 then i else before) else if ends then 0 else before
 
 -- the record of the event that stood as p before value i and, as q says, stands no longer after it, with its kind's number
-abbrev pub ended_at : ℕ → ℕ → Standing → Standing → Ended
+abbrev pub ended_at : ℕ → ℕ → Standing → Standing → Option Record
 ended_at code i p q =
     let e : Event = record { kind = code; start = p.start; duration = i - p.start; first = p.magnitude; second = 0 } in
-    if 0 <ᵇ p.start && q.start ≡ᵇ 0 then Over (record { event = e; clipped = p.clipped }) else Nothing
+    if 0 <ᵇ p.start && q.start ≡ᵇ 0 then Some (record { event = e; clipped = p.clipped }) else None
 
 -- the records, none or one
-abbrev pub list_of : Ended → List Record
-list_of Nothing = []
-list_of (Over r) = r ∷ []
+abbrev pub list_of : Option Record → List Record
+list_of None = []
+list_of (Some r) = r ∷ []
 
 -- what a history leaves
 abbrev pub magnitude_since : Kind → ℕ → List ℕ → ℕ

@@ -1,6 +1,6 @@
 -- The step follows the history, for every kind: the state read from a history, stepped by a value, is the state read from the longer history, and the
 -- record that ends is the one that the reading has due, with its mark. First for any test of beginning and ending, then for that of the settings' levels.
-use Rattle.std.specs.Prelude.{◌≡◌, Bool, ◌&&◌, ◌||◌, List, [], ◌∷◌, map, take, drop, if◌then◌else◌}
+use Rattle.std.specs.Prelude.{◌≡◌, Bool, ◌&&◌, ◌||◌, List, [], ◌∷◌, map, take, drop, if◌then◌else◌, Some, None}
 use Rattle.std.proofs.Math.Path.{refl, ap}
 use Rattle.std.proofs.Common.{sym, ◌∙◌, arith}
 use Rattle.std.proofs.Math.Bool.{true, false, or-false}
@@ -16,7 +16,6 @@ use Rattle.reading.specs.declared.Event.{Event}
 use Rattle.reading.specs.Values.{since, up_to}
 use Rattle.reading.specs.Clipping.{any_marked, clipped_since, last_measured, event_clipped, record_of}
 use Rattle.reading.specs.Thresholds.{begins, ends, stands_since, magnitude, kind_number, threshold_due}
-use Rattle.threshold.specs.declared.Ended.TheVariants.{Nothing, Over}
 use Rattle.threshold.specs.Standing.{worse, worsened, stepped, since_after, ended_at, list_of, magnitude_since, standing_since, standing_of}
 
 -- the first standing value is one of the values
@@ -133,7 +132,7 @@ module _ (k : Kind) (r : ℕ) (older : List ℕ) (clipped : Bool) (ms : List ℕ
   since-ended (suc a) now h = listed (0 <ᵇ suc a && now ≡ᵇ 0)
     where
       listed : (b : Bool) →
-          list_of (if b then Over (record { event = stood (suc a); clipped = clipped_since (suc a) ms }) else Nothing) ≡ map (record_of marked) (if b then stood (suc a) ∷ [] else [])
+          list_of (if b then Some (record { event = stood (suc a); clipped = clipped_since (suc a) ms }) else None) ≡ map (record_of marked) (if b then stood (suc a) ∷ [] else [])
       listed true = λ j. record { event = stood (suc a); clipped = its-mark a h j } ∷ []
       listed false = refl
 

@@ -2,6 +2,7 @@
 #![tactic(auto)]
 
 ghost use Rattle.std.specs.Prelude.{◌≡◌, ◌≤◌, min, max};
+ghost use Rattle.reading.specs.Thresholds.{kind_number};
 ghost use Rattle.threshold.specs.Standing.{begins_at, ends_at, worse, no_event, worsened, stepped, ended_at};
 
 use reading::{Event, Kind, Record};
@@ -13,13 +14,6 @@ pub struct Standing {
     pub start: u64,
     pub magnitude: u64,
     pub clipped: bool,
-}
-
-// The record of the event that is over with a value, if one is.
-#[derive(Clone, Copy)]
-pub enum Ended {
-    Nothing,
-    Over(Record),
 }
 
 // Whether a value is beyond the level at which an event begins. Values and levels are compared in 10,000ths.
@@ -123,22 +117,22 @@ impl Standing {
     }
 
     // The record of the event that stood before value i and, as `after` says, stands no longer after it.
-    pub fn ended(self, code: u8, i: u64, after: Standing) -> Ended
-        ensures { result ≡ ended_at code i self after }
+    pub fn ended(self, kind: Kind, i: u64, after: Standing) -> Option<Record>
+        ensures { result ≡ ended_at (kind_number kind) i self after }
     {
         if (0 < self.start) & (after.start == 0) {
             let event = Event {
-                kind: code,
+                kind: kind.number(),
                 start: self.start,
                 duration: numbers::minus(i, self.start),
                 first: self.magnitude,
                 second: 0,
             };
-            return Ended::Over(Record {
+            return Some(Record {
                 event,
                 clipped: self.clipped,
             });
         }
-        Ended::Nothing
+        None
     }
 }
