@@ -5,10 +5,7 @@ use Rattle.numbers.specs.Notation.{◌≡ᵇ◌, refuse◌unless◌then◌}
 use Rattle.numbers.specs.Rules.{Rule, passes, Holds}
 use Rattle.numbers.specs.Rules.Rule.{◌≤ʳ◌, ◌<ʳ◌, ◌≡ʳ◌, ◌and◌, ◌or◌}
 use Rattle.numbers.specs.Answers.{Answered, answered}
-use Rattle.numbers.specs.Answers.Answered.{accepted, refused}
 use Rattle.settings.specs.declared.Settings.{Settings}
-use Rattle.settings.specs.declared.SettingsRead.{SettingsRead}
-use Rattle.settings.specs.declared.SettingsRead.TheVariants.{Read, Refused}
 use Rattle.settings.specs.declared.Scaled.{Scaled}
 
 -- N, the values in the window: 100 at 50 Hz, else 120
@@ -87,11 +84,6 @@ start_refusal b = refuse 1 unless length b ≡ᵇ settings_length then settings_
 -- the answer to settings bytes: the settings, or the refusal
 unfoldable pub settings_read : List ℕ → Answered Settings
 settings_read b = answered (start_refusal b) (settings_of b)
-
--- and in the code's words
-abbrev pub settings_told : SettingsRead → Answered Settings
-settings_told (Read s) = accepted s
-settings_told (Refused n) = refused n
 
 -- the levels scaled for exact comparison with 10,000 × r, and the RVC limits for one with |N × r − A|: 10,000 × x ≤ t exactly where x ≤ t / 10,000
 abbrev pub scaled_of : Settings → Scaled

@@ -3,9 +3,12 @@
 
 ghost use Rattle.std.specs.Prelude.{◌≡◌, ◌*◌, ◌≤◌, ◌/◌, length};
 ghost use Rattle.numbers.specs.Rules.{passes, Holds};
-ghost use Rattle.settings.specs.Settings.{window_length_of, settings_length, settings_bytes, settings_of, settings_refusal, settings_read, settings_told};
+ghost use Rattle.numbers.specs.Refusals.{number_in, answer_in};
+ghost use Rattle.settings.specs.Settings.{window_length_of, settings_length, settings_bytes, settings_of, settings_refusal, settings_read};
 ghost use Rattle.settings.specs.Settings.{scaled_of, ValidSettings};
 ghost use Rattle.settings.specs.Settings.{samples_rule, frequency_rule, declared_rule, limit_rule, levels_rule, order_rule};
+
+use numbers::Refusal;
 
 // In 01's order: M, F, U, T, H, I, D, W, G.
 #[derive(Clone, Copy)]
@@ -24,13 +27,6 @@ pub struct Settings {
     pub dip: u32,
     pub swell: u32,
     pub hysteresis: u32,
-}
-
-// What settings bytes are: settings, or 01's number of the refusal.
-#[derive(Clone, Copy)]
-pub enum SettingsRead {
-    Read(Settings),
-    Refused(u32),
 }
 
 // Where an event begins and where it ends.
@@ -79,19 +75,17 @@ impl Settings {
 
     pub const WINDOW_60: u64 = 120;
 
-    pub fn from_bytes(bytes: &[u8]) -> SettingsRead
-        ensures { settings_told result ≡ settings_read bytes.now }
+    // The settings that bytes are, or why they are refused.
+    #[tactic(auto, unfolding(crate::specs::Settings::settings_read, crate::specs::Settings::start_refusal))]
+    pub fn from_bytes(bytes: &[u8]) -> Result<Settings, Refusal>
+        ensures { answer_in result ≡ settings_read bytes.now }
     {
         if bytes.len() != Settings::LENGTH {
-            return SettingsRead::Refused(1);
+            return Err(Refusal::SettingsLength);
         }
         let settings = Settings::unchecked(bytes);
-        let n = settings.refusal();
-        if n == 0 {
-            SettingsRead::Read(settings)
-        } else {
-            SettingsRead::Refused(n)
-        }
+        settings.in_range()?;
+        Ok(settings)
     }
 
     // Writes the settings into their part of an image.
@@ -134,7 +128,7 @@ impl Settings {
             swell: self.threshold(self.swell, self.swell - self.hysteresis),
             interruption: self.threshold(self.interruption, self.interruption + self.hysteresis),
             limit,
-            reduction: numbers::minus(limit, self.scaled_limit(self.limit - self.reduction)),
+            reduction: limit.saturating_sub(self.scaled_limit(self.limit - self.reduction)),
         }
     }
 
@@ -177,29 +171,27 @@ impl Settings {
         }
     }
 
-    // The lowest refusal that applies, 0 where none does.
-    fn refusal(self) -> u32
-        ensures { result ≡ settings_refusal self }
+    // The lowest refusal that applies, if one does.
+    #[tactic(auto, unfolding(crate::specs::Settings::settings_refusal))]
+    fn in_range(self) -> Result<(), Refusal>
+        ensures { number_in result ≡ settings_refusal self }
     {
         if !self.samples_good() {
-            return 2;
+            return Err(Refusal::Samples);
         }
         if !self.frequency_good() {
-            return 3;
+            return Err(Refusal::Frequency);
         }
         if !self.declared_good() {
-            return 4;
+            return Err(Refusal::Declared);
         }
         if !self.limit_good() {
-            return 5;
+            return Err(Refusal::Limit);
         }
-        if !self.levels_good() {
-            return 6;
+        if !(self.levels_good() && self.order_good()) {
+            return Err(Refusal::Levels);
         }
-        if !self.order_good() {
-            return 6;
-        }
-        0
+        Ok(())
     }
 
     fn samples_good(self) -> bool
@@ -223,31 +215,19 @@ impl Settings {
     fn limit_good(self) -> bool
         ensures { result ≡ passes (limit_rule self) }
     {
-        if self.limit < Settings::LIMIT_LEAST {
-            return false;
-        }
-        if Settings::LIMIT_MOST < self.limit {
-            return false;
-        }
-        self.reduction < self.limit
+        Settings::LIMIT_LEAST <= self.limit
+            && self.limit <= Settings::LIMIT_MOST
+            && self.reduction < self.limit
     }
 
     fn levels_good(self) -> bool
         ensures { result ≡ passes (levels_rule self) }
     {
-        if self.interruption < Settings::INTERRUPTION_LEAST {
-            return false;
-        }
-        if Settings::LEVEL_MOST < self.interruption {
-            return false;
-        }
-        if Settings::LEVEL_MOST < self.dip {
-            return false;
-        }
-        if Settings::LEVEL_MOST < self.swell {
-            return false;
-        }
-        self.hysteresis <= Settings::LEVEL_MOST
+        Settings::INTERRUPTION_LEAST <= self.interruption
+            && self.interruption <= Settings::LEVEL_MOST
+            && self.dip <= Settings::LEVEL_MOST
+            && self.swell <= Settings::LEVEL_MOST
+            && self.hysteresis <= Settings::LEVEL_MOST
     }
 
     // The sums are taken in 8 bytes, so that none wraps.
@@ -256,9 +236,6 @@ impl Settings {
     {
         let hysteresis = self.hysteresis as u64;
         let dip = self.dip as u64;
-        if dip < self.interruption as u64 + hysteresis {
-            return false;
-        }
-        dip + 2 * hysteresis < self.swell as u64
+        self.interruption as u64 + hysteresis <= dip && dip + 2 * hysteresis < self.swell as u64
     }
 }
