@@ -1,10 +1,8 @@
--- The bodies of an image: what is written of each state and what is read from each body's numbers; and the answer of each section, with 01's number for each of
--- its cases. The rules are the reading's.
-use Rattle.std.specs.Prelude.{◌≡◌, Bool, List, [], ◌∷◌, ◌++◌, ℕ, zero, suc, ◌+◌, ◌*◌, take, drop, get_or}
+-- The bodies of an image: what is written of each state and what is read from each body's numbers; and the answer of each section. The rules are the reading's.
+use Rattle.std.specs.Prelude.{Bool, List, [], ◌∷◌, ◌++◌, ℕ, zero, suc, ◌+◌, ◌*◌, take, drop, get_or}
 use Rattle.octets.specs.Bytes.{numbers_in}
 use Rattle.numbers.specs.Notation.{◌≡ᵇ◌, flag, refuse◌unless◌then◌}
 use Rattle.numbers.specs.Answers.{Answered, answered}
-use Rattle.numbers.specs.Answers.Answered.{accepted, refused}
 use Rattle.numbers.specs.Rules.{Rule, passes}
 use Rattle.settings.specs.declared.Settings.{Settings}
 use Rattle.settings.specs.Settings.{window_length_of}
@@ -18,17 +16,15 @@ use Rattle.rvc.specs.declared.Phase.{Phase}
 use Rattle.rvc.specs.declared.Phase.TheVariants.{Filling, Unsettled, Steady, Changing}
 use Rattle.rvc.specs.Phase.{phase_row, phase_mark}
 use Rattle.detection.specs.declared.Detector.{Detector}
-use Rattle.bodies.specs.declared.Verdict.{Verdict}
-use Rattle.bodies.specs.declared.Verdict.TheVariants.{Good, Bad}
-use Rattle.bodies.specs.declared.GathererRead.{GathererRead}
-use Rattle.bodies.specs.declared.GathererRead.TheVariants as gatherer-read
 use Rattle.bodies.specs.declared.WindowRead.{WindowRead}
-use Rattle.bodies.specs.declared.DetectorRead.{DetectorRead}
-use Rattle.bodies.specs.declared.DetectorRead.TheVariants as detector-read
 
 -- the detector in the numbers of body 4
 abbrev pub standing_row : Standing → List ℕ
 standing_row p = p.start ∷ p.magnitude ∷ []
+
+-- a phase's number, a change's four, and its mark
+abbrev pub phase_numbers : Phase → List ℕ
+phase_numbers p = phase_row p ++ (phase_mark p ∷ [])
 
 abbrev pub detector_row : Detector → List ℕ
 detector_row d =
@@ -55,9 +51,12 @@ phase_of_number (suc (suc (suc n))) c = Changing c
 abbrev pub change_from : List ℕ → Change
 change_from ns = record { start = get_or ns 1 0; sum = get_or ns 2 0; difference = get_or ns 3 0; stand = get_or ns 4 0; clipped = get_or ns 14 0 ≡ᵇ 1 }
 
+abbrev pub standing_with : ℕ → ℕ → ℕ → Standing
+standing_with start magnitude mark = record { start = start; magnitude = magnitude; clipped = mark ≡ᵇ 1 }
+
 -- start and magnitude from i on, the mark at j
 abbrev pub standing_from : ℕ → ℕ → List ℕ → Standing
-standing_from i j ns = record { start = get_or ns i 0; magnitude = get_or ns (i + 1) 0; clipped = get_or ns j 0 ≡ᵇ 1 }
+standing_from i j ns = standing_with (get_or ns i 0) (get_or ns (i + 1) 0) (get_or ns j 0)
 
 abbrev pub detector_from : ℕ → List ℕ → Detector
 detector_from v ns = record {
@@ -68,15 +67,6 @@ detector_from v ns = record {
   phase = phase_of_number (get_or ns 0 0) (change_from ns);
 }
 
--- the verdict on the table, and on body 3
-abbrev pub table_number : Verdict → ℕ
-table_number Good = 0
-table_number Bad = 9
-
-abbrev pub values_number : Verdict → ℕ
-values_number Good = 0
-values_number Bad = 11
-
 -- the table's refusal, in the edition whose counts have c bytes
 abbrev pub table_refusal : ℕ → List ℕ → ℕ
 table_refusal c b = refuse 9 unless same_bytes b (table_with c) then 0
@@ -86,28 +76,21 @@ abbrev pub body_refusal : Rule → ℕ
 body_refusal rule = refuse 11 unless passes rule then 0
 
 -- body 2
-abbrev pub gatherer_told : GathererRead → Answered Gatherer
-gatherer_told (gatherer-read.Read g) = accepted g
-gatherer_told gatherer-read.Refused = refused 11
-
 unfoldable pub gatherer_answer : Settings → List ℕ → Answered Gatherer
 gatherer_answer s body = let ns = numbers_in gatherer_widths body in answered (body_refusal (gatherer_rule s.samples ns)) (gatherer_from ns)
 
--- body 3: where its marks stand, behind V and the values
+-- body 3: V, and the places of values and of marks
+abbrev pub window_from : List ℕ → WindowRead
+window_from ns = record { count = get_or ns 0 0; window = take places (drop 1 ns); marks = drop (1 + places) ns }
+
+unfoldable pub window_answer : Settings → Bool → List ℕ → Answered WindowRead
+window_answer s whole body =
+    let ns = numbers_in values_widths body in answered (body_refusal (values_rule (window_length_of s) (flag whole) ns)) (window_from ns)
+
+-- where its marks stand, behind V and the values
 abbrev pub marks_at : ℕ
 marks_at = count_width + 4 * places
 
--- its verdict, V, and the places of values and of marks, good or not
-pub record WindowTold (s : Settings) (whole : Bool) (body : List ℕ) (r : WindowRead) : Type 0 where
-  pub number_is : values_number r.verdict ≡ body_refusal (values_rule (window_length_of s) (flag whole) (numbers_in values_widths body))
-  pub count_is : r.count ≡ get_or (numbers_in values_widths body) 0 0
-  pub window-is : r.window ≡ take places (drop 1 (numbers_in values_widths body))
-  pub marks_are : r.marks ≡ drop (1 + places) (numbers_in values_widths body)
-
 -- body 4
-abbrev pub detector_told : DetectorRead → Answered Detector
-detector_told (detector-read.Read d) = accepted d
-detector_told detector-read.Refused = refused 11
-
 unfoldable pub detector_answer : Settings → ℕ → List ℕ → Answered Detector
 detector_answer s v body = let ns = numbers_in events_widths body in answered (body_refusal (events_rule (window_length_of s) v ns)) (detector_from v ns)

@@ -4,45 +4,25 @@
 
 ghost use Rattle.std.specs.Prelude.{◌≡◌, ◌∷◌, ◌++◌, ◌+◌, ◌*◌, ◌≤◌, length};
 ghost use Rattle.octets.specs.Bytes.{row, numbers_in};
+ghost use Rattle.numbers.specs.Refusals.{number_in, answer_in};
 ghost use Rattle.reading.specs.Layout.{table_length, gatherer_widths, gatherer_length, values_widths, values_length, events_widths, events_length};
 ghost use Rattle.reading.specs.Image.{table_with};
 ghost use Rattle.rms.specs.Gather.{gatherer_row};
-ghost use Rattle.rvc.specs.Phase.{phase_row, phase_mark};
-ghost use Rattle.bodies.specs.Bodies.{detector_row, phase_of_number, table_number, table_refusal, gatherer_told, gatherer_answer, WindowTold};
-ghost use Rattle.bodies.specs.Bodies.{detector_told, detector_answer};
+ghost use Rattle.bodies.specs.Bodies.{phase_numbers, detector_row, phase_of_number, standing_with, table_refusal, gatherer_answer, window_answer, detector_answer};
 
 use detection::Detector;
+use numbers::Refusal;
 use rms::Gatherer;
 use rvc::{Change, Phase};
 use settings::Settings;
 use threshold::Standing;
 
-// Whether a section is good.
-#[derive(Clone, Copy)]
-pub enum Verdict {
-    Good,
-    Bad,
-}
-
-#[derive(Clone, Copy)]
-pub enum GathererRead {
-    Read(Gatherer),
-    Refused,
-}
-
-// An enum that held the places would have its functions proved by hand: the answer stands beside what was read.
+// Body 3: V, and the places of the values and of their marks.
 #[derive(Clone, Copy)]
 pub struct WindowRead {
-    pub verdict: Verdict,
     pub count: u64,
     pub window: [u32; 120],
     pub marks: [u8; 120],
-}
-
-#[derive(Clone, Copy)]
-pub enum DetectorRead {
-    Read(Detector),
-    Refused,
 }
 
 // Body 2: count, sum, last sum, whether there is a last half-cycle; the marks of the half-cycle in progress and of the last one.
@@ -103,16 +83,16 @@ pub fn put_table(part: &mut [u8], count_width: u64)
     octets::put_row(part, &widths, &numbers);
 }
 
-pub fn read_table(part: &[u8], count_width: u64) -> Verdict
+pub fn read_table(part: &[u8], count_width: u64) -> Result<(), Refusal>
     requires { count_width ≤ 8 }
-    ensures { table_number result ≡ table_refusal count_width part.now }
+    ensures { number_in result ≡ table_refusal count_width part.now }
 {
     let mut expected = [0u8; SETTINGS_AT];
     put_table(&mut expected, count_width);
-    if check::same(part, &expected) {
-        Verdict::Good
+    if part == expected.as_slice() {
+        Ok(())
     } else {
-        Verdict::Bad
+        Err(Refusal::ImageTable)
     }
 }
 
@@ -123,95 +103,83 @@ pub fn put_gatherer(part: &mut [u8], gatherer: Gatherer)
 {
     let widths = GATHERER_WIDTHS;
     let numbers = [
-        gatherer.count as u64,
+        u64::from(gatherer.count),
         gatherer.sum,
         gatherer.last,
-        numbers::flag(gatherer.whole) as u64,
-        numbers::flag(gatherer.clipped) as u64,
-        numbers::flag(gatherer.last_clipped) as u64,
+        u64::from(gatherer.whole),
+        u64::from(gatherer.clipped),
+        u64::from(gatherer.last_clipped),
     ];
     octets::put_row(part, &widths, &numbers);
 }
 
-pub fn read_gatherer(part: &[u8], settings: Settings) -> GathererRead
+pub fn read_gatherer(part: &[u8], settings: Settings) -> Result<Gatherer, Refusal>
     requires { length part.now ≡ gatherer_length }
-    ensures { gatherer_told result ≡ gatherer_answer settings part.now }
+    ensures { answer_in result ≡ gatherer_answer settings part.now }
 {
     let widths = GATHERER_WIDTHS;
     let mut numbers = [0u64; 6];
     octets::get_row(part, &widths, &mut numbers);
-    if rules::gatherer_good(settings.samples, &numbers) {
-        GathererRead::Read(Gatherer {
-            count: numbers[0] as u32,
-            sum: numbers[1],
-            last: numbers[2],
-            whole: numbers[3] == 1,
-            clipped: numbers[4] == 1,
-            last_clipped: numbers[5] == 1,
-        })
-    } else {
-        GathererRead::Refused
+    if !rules::gatherer_good(settings.samples, &numbers) {
+        return Err(Refusal::ImageBody);
     }
+    Ok(Gatherer {
+        count: numbers[0] as u32,
+        sum: numbers[1],
+        last: numbers[2],
+        whole: numbers[3] == 1,
+        clipped: numbers[4] == 1,
+        last_clipped: numbers[5] == 1,
+    })
 }
 
 // Body 3.
-pub fn put_values<'a>(part: &mut [u8], count: u64, window: &'a [u32], marks: &'a [u8])
-    requires { (length part.old ≡ values_length) × (length window.now ≡ 120) × (length marks.now ≡ 120) }
+pub fn put_values(part: &mut [u8], count: u64, window: &[u32; 120], marks: &[u8; 120])
+    requires { length part.old ≡ values_length }
     ensures { part.new ≡ row values_widths (count ∷ (window.now ++ marks.now)) }
 {
     octets::put_number(&mut part[0..COUNT_WIDTH], count);
     octets::put_words(&mut part[COUNT_WIDTH..MARKS_AT], window);
-    octets::copy(&mut part[MARKS_AT..VALUES_LENGTH], marks);
+    part[MARKS_AT..VALUES_LENGTH].copy_from_slice(marks);
 }
 
 // `whole` is the gatherer's, of the body before.
-pub fn read_window(part: &[u8], settings: Settings, whole: bool) -> WindowRead
+pub fn read_window(part: &[u8], settings: Settings, whole: bool) -> Result<WindowRead, Refusal>
     requires { length part.now ≡ values_length }
-    ensures { WindowTold settings whole part.now result }
+    ensures { answer_in result ≡ window_answer settings whole part.now }
 {
     let count = octets::number(&part[0..COUNT_WIDTH]);
     let mut window = [0u32; 120];
     octets::get_words(&part[COUNT_WIDTH..MARKS_AT], &mut window);
     let mut marks = [0u8; 120];
-    octets::copy(&mut marks, &part[MARKS_AT..VALUES_LENGTH]);
-    if rules::values_good(&window, &marks, count, settings.window_length(), whole) {
-        WindowRead {
-            verdict: Verdict::Good,
-            count,
-            window,
-            marks,
-        }
-    } else {
-        WindowRead {
-            verdict: Verdict::Bad,
-            count,
-            window,
-            marks,
-        }
+    marks.copy_from_slice(&part[MARKS_AT..VALUES_LENGTH]);
+    if !rules::values_good(&window, &marks, count, settings.window_length(), whole) {
+        return Err(Refusal::ImageBody);
     }
+    Ok(WindowRead {
+        count,
+        window,
+        marks,
+    })
 }
 
 // Body 4.
-fn numbers_of(phase: Phase) -> [u64; 5]
-    ensures { result ≡ phase_row phase }
+// The phase's number, a change's four, and its mark; zeros outside a change.
+fn numbers_of(phase: Phase) -> [u64; 6]
+    ensures { result ≡ phase_numbers phase }
 {
     match phase {
-        Phase::Filling => [0, 0, 0, 0, 0],
-        Phase::Unsettled => [1, 0, 0, 0, 0],
-        Phase::Steady => [2, 0, 0, 0, 0],
-        Phase::Changing(change) => [3, change.start, change.sum, change.difference, change.stand],
-    }
-}
-
-// The mark of a change in progress, 0 outside one.
-fn change_mark(phase: Phase) -> u64
-    ensures { result ≡ phase_mark phase }
-{
-    match phase {
-        Phase::Filling => 0,
-        Phase::Unsettled => 0,
-        Phase::Steady => 0,
-        Phase::Changing(change) => numbers::flag(change.clipped) as u64,
+        Phase::Filling => [0, 0, 0, 0, 0, 0],
+        Phase::Unsettled => [1, 0, 0, 0, 0, 0],
+        Phase::Steady => [2, 0, 0, 0, 0, 0],
+        Phase::Changing(change) => [
+            3,
+            change.start,
+            change.sum,
+            change.difference,
+            change.stand,
+            u64::from(change.clipped),
+        ],
     }
 }
 
@@ -219,44 +187,36 @@ pub fn put_detector(part: &mut [u8], detector: Detector)
     requires { length part.old ≡ events_length }
     ensures { part.new ≡ row events_widths (detector_row detector) }
 {
-    let phase = detector.phase;
-    let change = numbers_of(phase);
+    let phase = numbers_of(detector.phase);
     let dip = detector.dip;
     let swell = detector.swell;
     let interruption = detector.interruption;
     let widths = EVENTS_WIDTHS;
     let numbers = [
-        change[0],
-        change[1],
-        change[2],
-        change[3],
-        change[4],
+        phase[0],
+        phase[1],
+        phase[2],
+        phase[3],
+        phase[4],
         dip.start,
         dip.magnitude,
         swell.start,
         swell.magnitude,
         interruption.start,
         interruption.magnitude,
-        numbers::flag(dip.clipped) as u64,
-        numbers::flag(swell.clipped) as u64,
-        numbers::flag(interruption.clipped) as u64,
-        change_mark(phase),
+        u64::from(dip.clipped),
+        u64::from(swell.clipped),
+        u64::from(interruption.clipped),
+        phase[5],
     ];
     octets::put_row(part, &widths, &numbers);
-}
-
-// A word of 4 bytes as a number.
-fn word(low: u32) -> u64
-    ensures { result ≡ low }
-{
-    low as u64
 }
 
 // A number of 8 bytes from its two words, the lower one first.
 fn wide(low: u32, high: u32) -> u64
     ensures { result ≡ low + 4294967296 * high }
 {
-    low as u64 + 4_294_967_296 * high as u64
+    u64::from(low) + 4_294_967_296 * u64::from(high)
 }
 
 // Body 4 is read in words of 4 bytes, two to a count: the compiler reads a word in one step, and 8 bytes one by one.
@@ -267,21 +227,21 @@ fn events_numbers(part: &[u8]) -> [u64; 15]
     let mut words = [0u32; 20];
     octets::get_words(part, &mut words);
     [
-        word(words[0]),
+        u64::from(words[0]),
         wide(words[1], words[2]),
-        word(words[3]),
-        word(words[4]),
+        u64::from(words[3]),
+        u64::from(words[4]),
         wide(words[5], words[6]),
         wide(words[7], words[8]),
-        word(words[9]),
+        u64::from(words[9]),
         wide(words[10], words[11]),
-        word(words[12]),
+        u64::from(words[12]),
         wide(words[13], words[14]),
-        word(words[15]),
-        word(words[16]),
-        word(words[17]),
-        word(words[18]),
-        word(words[19]),
+        u64::from(words[15]),
+        u64::from(words[16]),
+        u64::from(words[17]),
+        u64::from(words[18]),
+        u64::from(words[19]),
     ]
 }
 
@@ -297,13 +257,24 @@ fn phase_of(number: u64, change: Change) -> Phase
     }
 }
 
-pub fn read_detector(part: &[u8], settings: Settings, count: u64) -> DetectorRead
+// An event of its numbers; its mark is 0 or 1.
+fn standing(start: u64, magnitude: u64, mark: u64) -> Standing
+    ensures { result ≡ standing_with start magnitude mark }
+{
+    Standing {
+        start,
+        magnitude,
+        clipped: mark == 1,
+    }
+}
+
+pub fn read_detector(part: &[u8], settings: Settings, count: u64) -> Result<Detector, Refusal>
     requires { length part.now ≡ events_length }
-    ensures { detector_told result ≡ detector_answer settings count part.now }
+    ensures { answer_in result ≡ detector_answer settings count part.now }
 {
     let numbers = events_numbers(part);
     if !rules::events_good(&numbers, settings.window_length(), count) {
-        return DetectorRead::Refused;
+        return Err(Refusal::ImageBody);
     }
     let change = Change {
         start: numbers[1],
@@ -312,27 +283,11 @@ pub fn read_detector(part: &[u8], settings: Settings, count: u64) -> DetectorRea
         stand: numbers[4],
         clipped: numbers[14] == 1,
     };
-    let phase = phase_of(numbers[0], change);
-    let dip = Standing {
-        start: numbers[5],
-        magnitude: numbers[6],
-        clipped: numbers[11] == 1,
-    };
-    let swell = Standing {
-        start: numbers[7],
-        magnitude: numbers[8],
-        clipped: numbers[12] == 1,
-    };
-    let interruption = Standing {
-        start: numbers[9],
-        magnitude: numbers[10],
-        clipped: numbers[13] == 1,
-    };
-    DetectorRead::Read(Detector {
+    Ok(Detector {
         count,
-        dip,
-        swell,
-        interruption,
-        phase,
+        dip: standing(numbers[5], numbers[6], numbers[11]),
+        swell: standing(numbers[7], numbers[8], numbers[12]),
+        interruption: standing(numbers[9], numbers[10], numbers[13]),
+        phase: phase_of(numbers[0], change),
     })
 }

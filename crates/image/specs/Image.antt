@@ -1,8 +1,10 @@
 -- What save writes of a state, what restore reads from bytes, and the answers of both.
-use Rattle.std.specs.Prelude.{List, ◌∷◌, ◌++◌, ℕ, zero, suc, ◌+◌, take, drop, get_or, if◌then◌else◌}
+use Rattle.std.specs.Prelude.{List, ◌∷◌, ◌++◌, ℕ, zero, suc, ◌+◌, take, drop, get_or, if◌then◌else◌, Result}
 use Rattle.octets.specs.Bytes.{row}
-use Rattle.numbers.specs.Answers.{Answered}
+use Rattle.numbers.specs.Answers.{Answered, answered}
 use Rattle.numbers.specs.Answers.Answered.{accepted, refused}
+use Rattle.numbers.specs.declared.Refusal.{Refusal}
+use Rattle.numbers.specs.Refusals.{answer_in}
 use Rattle.settings.specs.Settings.{settings_bytes, settings_of}
 use Rattle.reading.specs.Layout.{count_width, places, gatherer_widths, values_widths, events_widths}
 use Rattle.reading.specs.Image.{table}
@@ -13,8 +15,6 @@ use Rattle.rms.specs.Gather.{gatherer_row}
 use Rattle.state.specs.declared.State.{State}
 use Rattle.state.specs.State.{state_with}
 use Rattle.bodies.specs.Bodies.{detector_row, gatherer_from, detector_from}
-use Rattle.image.specs.declared.Acceptance.{Acceptance}
-use Rattle.image.specs.declared.Acceptance.TheVariants.{Accepted, Refused}
 
 -- the bodies behind the settings' own
 abbrev pub gatherer_body : State → List ℕ
@@ -46,13 +46,13 @@ save_answer lent = if too_short lent then 7 else 0
 unfoldable pub saved_bytes : State → List ℕ → List ℕ
 saved_bytes st lent = if too_short lent then lent else over (image_bytes st) lent
 
--- restore's answer, as 01 gives it: each case of the code's enum, beside the state that it leaves
-abbrev pub acceptance_told : Acceptance → Answered (Unit {0})
-acceptance_told Accepted = accepted tt
-acceptance_told (Refused n) = refused n
+-- read: the lowest section's refusal; else the state of the bytes
+unfoldable pub state_read : List ℕ → Answered State
+state_read b = answered (restore_refusal b) (state_at b)
 
-abbrev pub restored_to : State → Acceptance → Restoration State
-restored_to st answer = record { after = st; answer = acceptance_told answer }
+-- restore's answer beside the state that it leaves
+abbrev pub restored_to : State → Result (Unit {0}) Refusal → Restoration State
+restored_to st answer = record { after = st; answer = answer_in answer }
 
 -- restore: the lowest section's refusal, and the old state; else the state of the bytes
 abbrev pub refused_by : ℕ → State → Restoration State

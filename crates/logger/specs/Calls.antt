@@ -1,15 +1,17 @@
 -- The logger's calls. The contract of each function of `Logger` is an equation with its field here, and demand 3 is claimed of these fields.
-use Rattle.std.specs.Prelude.{◌≡◌, List, ℕ}
+use Rattle.std.specs.Prelude.{Result, Ok, Err}
 use Rattle.numbers.specs.Answers.{Answered}
 use Rattle.numbers.specs.Answers.Answered.{accepted, refused}
 use Rattle.settings.specs.declared.Settings.{Settings}
 use Rattle.settings.specs.Settings.{settings_read}
-use Rattle.reading.specs.Calls.{Calls, without_logger}
+use Rattle.numbers.specs.declared.Refusal.{Refusal}
+use Rattle.numbers.specs.Refusals.{number_of}
+use Rattle.reading.specs.Calls.{Restoration, Calls, without_logger}
 use Rattle.state.specs.declared.State.{State}
-use Rattle.state.specs.State.{fresh, readings_of, ValidState}
+use Rattle.state.specs.State.{fresh, readings_of}
 use Rattle.state.specs.Calls.{fed_with}
-use Rattle.image.specs.declared.Acceptance.{Acceptance}
-use Rattle.image.specs.Image.{save_answer, saved_bytes, restored_to, restored_by}
+use Rattle.image.specs.Image.{save_answer, saved_bytes, restored_by}
+use Rattle.logger.specs.declared.Logger.{Logger}
 use Rattle.logger.specs.Logger.{saved_to}
 
 -- start: the fresh logger of settings that were read, or their refusal
@@ -27,7 +29,7 @@ logger_calls = record {
   restore = restored_by;
 }
 
--- resume: an image restored into a spare logger, fresh with the least settings that start accepts
+-- resume, as an image restored into a spare logger, fresh with the least settings that start accepts
 abbrev pub spare_settings : Settings
 spare_settings = record {
   samples = 8;
@@ -41,6 +43,6 @@ spare_settings = record {
   hysteresis = 0;
 }
 
-pub record Resumes (image : List ℕ) (st : State) (told : Acceptance) : Type 0 where
-  pub restored : restored_to st told ≡ logger_calls.restore (fresh spare_settings) image
-  pub valid : ValidState st
+abbrev pub resumed_to : Result Logger Refusal → Restoration State
+resumed_to (Ok l) = record { after = l.state; answer = accepted tt }
+resumed_to (Err r) = record { after = fresh spare_settings; answer = refused (number_of r) }
