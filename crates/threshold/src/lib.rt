@@ -1,14 +1,15 @@
 // Dips, swells and interruptions: what is kept of each, and one value's step, the same for all three.
 #![tactic(auto)]
 
-ghost use Rattle.std.specs.Prelude.{◌≡◌, ◌≤◌, min, max};
+ghost use Rattle.std.specs.Prelude.{◌≡◌, ◌≤◌};
 ghost use Rattle.reading.specs.Thresholds.{kind_number};
 ghost use Rattle.threshold.specs.Standing.{begins_at, ends_at, worse, no_event, worsened, stepped, ended_at};
 
 use reading::{Event, Kind, Record};
 use settings::Threshold;
 
-// What is kept of an event: its start, its magnitude so far, and whether one of its values is clipped. 0, 0 and false where none stands.
+// What is kept of an event: its start, its magnitude so far, and whether one of its values is clipped. 0, 0 and false where none stands, and no `Option`:
+// `standing_rule`, which any image must meet, and `standing_since` speak of a start of 0.
 #[derive(Clone, Copy)]
 pub struct Standing {
     pub start: u64,
@@ -22,9 +23,8 @@ pub fn begins(kind: Kind, level: Threshold, value: u64) -> bool
     ensures { result ≡ begins_at kind level value }
 {
     match kind {
-        Kind::Dip => 10_000 * value < level.begins,
+        Kind::Dip | Kind::Interruption => 10_000 * value < level.begins,
         Kind::Swell => level.begins < 10_000 * value,
-        Kind::Interruption => 10_000 * value < level.begins,
     }
 }
 
@@ -34,22 +34,9 @@ pub fn ends(kind: Kind, level: Threshold, value: u64) -> bool
     ensures { result ≡ ends_at kind level value }
 {
     match kind {
-        Kind::Dip => level.ends <= 10_000 * value,
+        Kind::Dip | Kind::Interruption => level.ends <= 10_000 * value,
         Kind::Swell => 10_000 * value <= level.ends,
-        Kind::Interruption => level.ends <= 10_000 * value,
     }
-}
-
-fn lower(a: u64, b: u64) -> u64
-    ensures { result ≡ min a b }
-{
-    if a < b { a } else { b }
-}
-
-pub fn higher(a: u64, b: u64) -> u64
-    ensures { result ≡ max a b }
-{
-    if a < b { b } else { a }
 }
 
 // The lower of two values of a dip or an interruption, the higher of a swell's.
@@ -57,9 +44,8 @@ pub fn worse_of(kind: Kind, a: u64, b: u64) -> u64
     ensures { result ≡ worse kind a b }
 {
     match kind {
-        Kind::Dip => lower(a, b),
-        Kind::Swell => higher(a, b),
-        Kind::Interruption => lower(a, b),
+        Kind::Dip | Kind::Interruption => a.min(b),
+        Kind::Swell => a.max(b),
     }
 }
 
@@ -79,13 +65,13 @@ impl Standing {
     {
         let magnitude = worse_of(kind, value, self.magnitude);
         Standing {
-            start: self.start,
             magnitude,
             clipped: clipped | self.clipped,
+            ..self
         }
     }
 
-    // After value i, which begins the event, ends it, or leaves it as it was.
+    // After value i, which begins the event, ends it, or leaves it as it was. The two tests come from the caller, as three channels share theirs (`stepped`).
     pub fn step(
         self,
         kind: Kind,
@@ -124,7 +110,7 @@ impl Standing {
             let event = Event {
                 kind: kind.number(),
                 start: self.start,
-                duration: numbers::minus(i, self.start),
+                duration: i.saturating_sub(self.start),
                 first: self.magnitude,
                 second: 0,
             };
