@@ -1,8 +1,10 @@
 -- What the functions of this crate give, in the parts that the code keeps a logger's state in.
-use Rattle.std.specs.Prelude.{◌≡◌, List, ℕ, zero, suc, length}
+use Rattle.std.specs.Prelude.{◌≡◌, List, ℕ, zero, suc, length, Option, Result, Ok, Err}
 use Rattle.settings.specs.declared.Settings.{Settings}
 use Rattle.settings.specs.declared.Scaled.{Scaled}
 use Rattle.settings.specs.Settings.{scaled_of}
+use Rattle.reading.specs.declared.Stop.{Stop}
+use Rattle.reading.specs.Told.{told_in, stop_number}
 use Rattle.reading.specs.Calls.{Outcome}
 use Rattle.reading.specs.Records.{record_bytes}
 use Rattle.reading.specs.Engineer.{over, room}
@@ -47,16 +49,14 @@ half_by (suc y) st p lent = record { after = st; sums = sums_of st.window st.mar
 unfoldable pub half_outcome : State → Part → List ℕ → HalfOutcome
 half_outcome st p lent = half_by (why_not st p (room lent)) st p lent
 
--- the same of what the code leaves
-abbrev pub refused_half : Gatherer → Detector → Sums → ℕ → Half
-refused_half g d sums why = record { gatherer = g; detector = d; sums = sums; written = 0; why = why }
-
-abbrev pub half_of : Settings → Half → List ℕ → List ℕ → List ℕ → HalfOutcome
-half_of s h w ms out = record { after = state_with s h.gatherer h.detector w ms; sums = h.sums; written = h.written; why = h.why; bytes = out }
+-- the same of what the code gives: where it is not taken, what was before stays
+abbrev pub half_of : Settings → Gatherer → Detector → Sums → Result Half Stop → List ℕ → List ℕ → List ℕ → HalfOutcome
+half_of s g d sums (Ok h) w ms out = record { after = state_with s h.gatherer h.detector w ms; sums = h.sums; written = h.written; why = 0; bytes = out }
+half_of s g d sums (Err stop) w ms out = record { after = state_with s g d w ms; sums = sums; written = 0; why = stop_number stop; bytes = out }
 
 -- the outcome of a walk; a walk that ends with a part
 abbrev pub walked_of : Settings → Walked → List ℕ → List ℕ → List ℕ → Outcome State
-walked_of s r w ms out = record { after = state_with s r.gatherer r.detector w ms; told = r.told; bytes = out }
+walked_of s r w ms out = record { after = state_with s r.gatherer r.detector w ms; told = told_in r.told; bytes = out }
 
-abbrev pub walked_with : Gatherer → Detector → Part → ℕ → ℕ → ℕ → Walked
+abbrev pub walked_with : Gatherer → Detector → Part → ℕ → ℕ → Option Stop → Walked
 walked_with g d p taken written why = record { gatherer = with_part g p; detector = d; told = record { taken = taken; written = written; why = why } }

@@ -5,23 +5,22 @@ ghost use Rattle.std.specs.Prelude.{◌≡◌, ◌+◌, ◌*◌, ◌^◌, ◌≤
 ghost use Rattle.rms.specs.Gather.{part_of};
 ghost use Rattle.state.specs.State.{state_with, ValidState};
 ghost use Rattle.state.specs.Calls.{fed_with};
-ghost use Rattle.feed.specs.Feed.{HalfReady, refused_half, half_of, half_outcome, walked_with, walked_of};
+ghost use Rattle.feed.specs.Feed.{HalfReady, half_of, half_outcome, walked_with, walked_of};
 
 use detection::Detector;
-use reading::{LAST_VALUE, Told};
+use reading::{LAST_VALUE, Stop, Told};
 use records::RECORD_LENGTH;
 use rms::{Gatherer, Marked, Part};
 use settings::{Scaled, Settings};
 use window::Sums;
 
-// What the end of a half-cycle leaves of the logger beside the window, the window's sums, how many records were written, and why it was not taken, or 0.
+// What a half-cycle that is taken leaves of the logger beside the window, the window's sums, and how many records were written.
 #[derive(Clone, Copy)]
 struct Half {
     gatherer: Gatherer,
     detector: Detector,
     sums: Sums,
     written: usize,
-    why: u32,
 }
 
 // What a walk leaves of the logger beside the window, and what feed tells.
@@ -32,19 +31,6 @@ pub struct Walked {
     pub told: Told,
 }
 
-// Nothing is changed, and why.
-fn refused(gatherer: Gatherer, detector: Detector, sums: Sums, why: u32) -> Half
-    ensures { result ≡ refused_half gatherer detector sums why }
-{
-    Half {
-        gatherer,
-        detector,
-        sums,
-        written: 0,
-        why,
-    }
-}
-
 // A part ends the half-cycle in progress; `sums` are the window's. Nothing changes where V would pass its end or the records do not fit.
 fn complete(
     settings: Settings,
@@ -52,29 +38,28 @@ fn complete(
     gatherer: Gatherer,
     detector: Detector,
     sums: Sums,
-    window: &mut [u32],
-    marks: &mut [u8],
+    window: &mut [u32; 120],
+    marks: &mut [u8; 120],
     part: Part,
     records: &mut [u8],
-) -> Half
+) -> Result<Half, Stop>
     requires { HalfReady settings scaled gatherer detector sums window.old marks.old part }
-    ensures { half_of settings result window.new marks.new records.new
+    ensures { half_of settings gatherer detector sums result window.new marks.new records.new
         ≡ half_outcome (state_with settings gatherer detector window.old marks.old) part records.old }
 {
     let half = gatherer.with_half(part);
     let whole = gatherer.whole;
     if !whole {
-        return Half {
+        return Ok(Half {
             gatherer: half,
             detector,
             sums,
             written: 0,
-            why: 0,
-        };
+        });
     }
     let count = detector.count;
     if count == LAST_VALUE {
-        return refused(gatherer, detector, sums, 2);
+        return Err(Stop::End);
     }
     let window_length = settings.window_length();
     let near = window::newest(window, window_length, count);
@@ -86,7 +71,7 @@ fn complete(
     let due = tried.due;
     let written = due.count();
     if records.len() / RECORD_LENGTH < written {
-        return refused(gatherer, detector, sums, 1);
+        return Err(Stop::Room);
     }
     let length = window_length as usize;
     window::push(window, length, count as usize, value.value);
@@ -95,18 +80,17 @@ fn complete(
         length,
         count as usize,
         sums.marks,
-        numbers::flag(value.clipped),
+        u8::from(value.clipped),
     );
     due.put(records);
     let after = tried.after;
     let sums_after = tried.sums;
-    Half {
+    Ok(Half {
         gatherer: half,
         detector: after,
         sums: sums_after,
         written,
-        why: 0,
-    }
+    })
 }
 
 // The end of a walk, with the samples that leave the half-cycle in progress.
@@ -116,7 +100,7 @@ fn end_walk(
     samples: &[i16],
     taken: usize,
     written: usize,
-    why: u32,
+    why: Option<Stop>,
 ) -> Walked
     requires { (gatherer.count + length samples.now ≤ 256) × (gatherer.sum ≤ gatherer.count * 2 ^ 30) }
     ensures { (result ≡ walked_with gatherer detector (part_of samples.now) taken written why)
@@ -140,8 +124,8 @@ pub fn walk(
     settings: Settings,
     gatherer: Gatherer,
     detector: Detector,
-    window: &mut [u32],
-    marks: &mut [u8],
+    window: &mut [u32; 120],
+    marks: &mut [u8; 120],
     block: &[i16],
     records: &mut [u8],
 ) -> Walked
@@ -156,7 +140,7 @@ pub fn walk(
     let mut d = detector;
     let mut sums = Sums {
         values: window::sum_of(window),
-        marks: window::sum_marks(marks),
+        marks: window::sum_of(marks),
     };
     let mut at: usize = 0;
     let mut written: usize = 0;
@@ -165,7 +149,7 @@ pub fn walk(
         let end = at + share.count;
         let behind = RECORD_LENGTH * written;
         let part = rms::sum_squares(&block[at..end]);
-        let half = complete(
+        let ended = complete(
             settings,
             scaled,
             g,
@@ -176,16 +160,20 @@ pub fn walk(
             part,
             &mut records[behind..],
         );
-        if 0 < half.why {
-            let taken = end - 1;
-            return end_walk(g, d, &block[at..taken], taken, written, half.why);
+        match ended {
+            Err(stop) => {
+                let taken = end - 1;
+                return end_walk(g, d, &block[at..taken], taken, written, Some(stop));
+            }
+            Ok(half) => {
+                g = half.gatherer;
+                d = half.detector;
+                sums = half.sums;
+                written += half.written;
+                at = end;
+                share = g.cut(half_length, &block[at..]);
+            }
         }
-        g = half.gatherer;
-        d = half.detector;
-        sums = half.sums;
-        written += half.written;
-        at = end;
-        share = g.cut(half_length, &block[at..]);
     }
-    end_walk(g, d, &block[at..], block.len(), written, 0)
+    end_walk(g, d, &block[at..], block.len(), written, None)
 }

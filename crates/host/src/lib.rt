@@ -2,8 +2,12 @@
 // refusal.
 #![tactic(auto)]
 
-ghost use Rattle.std.specs.Prelude.{◌≡◌, not, ◌≤◌, min, length};
-ghost use Rattle.octets.specs.Bytes.{row, total};
+ghost use Rattle.std.specs.Prelude.{◌≡◌, not, ◌≤◌, ◌<◌, ◌*◌, ◌^◌, length, replicate, IfOk};
+ghost use Rattle.octets.specs.Bytes.{row};
+ghost use Rattle.numbers.specs.Answers.{answered};
+ghost use Rattle.numbers.specs.Refusals.{answer_with, number_in};
+ghost use Rattle.reading.specs.Told.{told_in};
+ghost use Rattle.image.specs.Image.{state_at};
 ghost use Rattle.numbers.specs.Notation.{◌≡ᵇ◌};
 ghost use Rattle.samples.specs.Samples.{samples_of};
 ghost use Rattle.state.specs.State.{ValidState};
@@ -12,38 +16,27 @@ ghost use Rattle.logger.specs.Calls.{logger_calls};
 ghost use Rattle.reading.specs.Engineer.{over};
 ghost use Rattle.reading.specs.Layout.{count_width, earlier_width, reply_length, day_reply_length};
 ghost use Rattle.conversion.specs.Conversion.{converted_to, records_converted, image_converted};
-ghost use Rattle.host.specs.Host.{begun_to, begun, replied, advanced_to, advanced, block_tried_to, block_tried, day_replied, counted_to, counted};
+ghost use Rattle.host.specs.Host.{block_refusal, begun_to, begun, replied, advanced_to, advanced, block_tried_to, block_tried, day_replied, counted_to, counted};
 
-use day_count::{Counted, DayCount};
-use image::Acceptance;
-use logger::{Fed, Logger, Started};
+use day_count::DayCount;
+use logger::{Fed, Logger};
+use numbers::Refusal;
 use reading::Told;
 use records::RECORD_LENGTH;
 
-// A reply: taken, written, why.
+// A reply: taken, written, why, in 8 bytes each.
 const REPLY_LENGTH: usize = 24;
 
-const REPLY_WIDTHS: [u8; 3] = [8; 3];
-
-// A day's reply: both counts, then whether each is over.
+// A day's reply: both counts, then whether each is over, in 8 bytes each.
 const DAY_REPLY_LENGTH: usize = 32;
-
-const DAY_REPLY_WIDTHS: [u8; 4] = [8; 4];
 
 // How many samples are decoded at a time.
 const CHUNK: usize = 768;
 
-// The next chunk of the samples that are left.
-fn chunk_of(left: usize) -> usize
-    ensures { result ≡ min left 768 }
-{
-    if left < CHUNK { left } else { CHUNK }
-}
-
-// Feeds the samples that bytes are, chunk by chunk, each decoded on the stack, until one is not taken whole.
+// Feeds the samples that bytes are, chunk by chunk, each decoded on the stack, until one is not taken whole. The place is counted by hand as the answer tells it.
 fn feed_chunks(logger: Logger, bytes: &[u8], records: &mut [u8]) -> Fed
     requires { ValidState logger.state }
-    ensures { fed_to result.logger.state result.told records.new ≡ logger_calls.feed logger.state (samples_of bytes.now) records.old }
+    ensures { fed_to result.logger.state (told_in result.told) records.new ≡ logger_calls.feed logger.state (samples_of bytes.now) records.old }
 {
     let count = bytes.len() / 2;
     let mut samples = [0i16; CHUNK];
@@ -51,7 +44,7 @@ fn feed_chunks(logger: Logger, bytes: &[u8], records: &mut [u8]) -> Fed
     let mut at: usize = 0;
     let mut written: usize = 0;
     while at < count {
-        let size = chunk_of(count - at);
+        let size = CHUNK.min(count - at);
         let start = 2 * at;
         let end = start + 2 * size;
         let behind = RECORD_LENGTH * written;
@@ -60,15 +53,13 @@ fn feed_chunks(logger: Logger, bytes: &[u8], records: &mut [u8]) -> Fed
         let told = fed.told;
         held = fed.logger;
         written += told.written;
-        if 0 < told.why {
-            let taken = at + told.taken;
-            let why = told.why;
+        if told.why.is_some() {
             return Fed {
                 logger: held,
                 told: Told {
-                    taken,
+                    taken: at + told.taken,
                     written,
-                    why,
+                    why: told.why,
                 },
             };
         }
@@ -79,17 +70,17 @@ fn feed_chunks(logger: Logger, bytes: &[u8], records: &mut [u8]) -> Fed
         told: Told {
             taken: at,
             written,
-            why: 0,
+            why: None,
         },
     }
 }
 
-// A row of numbers into the first bytes of a reply, as many as its widths make.
-fn put_front(reply: &mut [u8], size: usize, widths: &[u8], numbers: &[u64])
-    requires { (length numbers.now ≡ length widths.now) × (size ≡ total widths.now) × (size ≤ length reply.old) }
-    ensures { reply.new ≡ over (row widths.now numbers.now) reply.old }
+// A row of numbers, 8 bytes each, into the first bytes of a reply.
+fn put_front<const N: usize>(reply: &mut [u8], numbers: &[u64; N])
+    requires { (8 * N ≤ length reply.old) × (8 * N < 2 ^ 64) }
+    ensures { reply.new ≡ over (row (replicate N 8) numbers.now) reply.old }
 {
-    octets::put_row(&mut reply[0..size], widths, numbers);
+    octets::put_row(&mut reply[..8 * N], &[8; N], numbers);
 }
 
 // Taken, written and why.
@@ -97,9 +88,11 @@ fn put_reply(reply: &mut [u8], told: Told)
     requires { reply_length ≤ length reply.old }
     ensures { reply.new ≡ replied told reply.old }
 {
-    let widths = REPLY_WIDTHS;
-    let numbers = [told.taken as u64, told.written as u64, told.why as u64];
-    put_front(reply, REPLY_LENGTH, &widths, &numbers);
+    let why = told.why_number();
+    put_front(
+        reply,
+        &[told.taken as u64, told.written as u64, u64::from(why)],
+    );
 }
 
 // A day's two counts, and whether each is over.
@@ -107,16 +100,90 @@ fn put_day(reply: &mut [u8], day: DayCount)
     requires { day_reply_length ≤ length reply.old }
     ensures { reply.new ≡ day_replied day reply.old }
 {
-    let widths = DAY_REPLY_WIDTHS;
-    let second = day.second;
-    let first = day.first;
-    let numbers = [
-        second.count,
-        first.count,
-        numbers::flag(second.over) as u64,
-        numbers::flag(first.over) as u64,
-    ];
-    put_front(reply, DAY_REPLY_LENGTH, &widths, &numbers);
+    put_front(
+        reply,
+        &[
+            day.second.count,
+            day.first.count,
+            u64::from(day.second.over),
+            u64::from(day.first.over),
+        ],
+    );
+}
+
+// What advance and try begin with: the logger of the image, or restore's refusals; then 12 for an odd number of sample bytes.
+fn resume_for(image: &[u8], samples: &[u8]) -> Result<Logger, Refusal>
+    ensures { (answer_with (λ l. l.state) result ≡ answered (block_refusal image.now samples.now 0) (state_at image.now)) × IfOk result (λ l. ValidState l.state) }
+{
+    let logger = Logger::resume(image)?;
+    if samples.len() % 2 != 0 {
+        return Err(Refusal::OddSamples);
+    }
+    Ok(logger)
+}
+
+fn begin(settings: &[u8], image: &mut [u8]) -> Result<(), Refusal>
+    ensures { begun_to (number_in result) image.new ≡ begun settings.now image.old }
+{
+    Logger::start(settings)?.save(image)
+}
+
+fn advance(
+    image: &[u8],
+    samples: &[u8],
+    next: &mut [u8],
+    records: &mut [u8],
+    reply: &mut [u8],
+) -> Result<(), Refusal>
+    ensures { advanced_to (number_in result) next.new records.new reply.new
+        ≡ advanced image.now samples.now next.old records.old reply.old }
+{
+    let logger = resume_for(image, samples)?;
+    if next.len() < bodies::IMAGE_LENGTH {
+        return Err(Refusal::Room);
+    }
+    if reply.len() < REPLY_LENGTH {
+        return Err(Refusal::ReplyRoom);
+    }
+    let fed = feed_chunks(logger, samples, records);
+    put_reply(reply, fed.told);
+    fed.logger.save(next)
+}
+
+fn try_block(
+    image: &[u8],
+    samples: &[u8],
+    scratch: &mut [u8],
+    reply: &mut [u8],
+) -> Result<(), Refusal>
+    ensures { block_tried_to (number_in result) scratch.new reply.new
+        ≡ block_tried image.now samples.now scratch.old reply.old }
+{
+    let logger = resume_for(image, samples)?;
+    if reply.len() < REPLY_LENGTH {
+        return Err(Refusal::ReplyRoom);
+    }
+    let fed = feed_chunks(logger, samples, scratch);
+    put_reply(reply, fed.told);
+    Ok(())
+}
+
+fn count_day(
+    settings: &[u8],
+    records: &[u8],
+    z: u64,
+    above: bool,
+    day: u64,
+    reply: &mut [u8],
+) -> Result<(), Refusal>
+    ensures { counted_to (number_in result) reply.new ≡ counted settings.now records.now z above day reply.old }
+{
+    let count = day_count::count_day(settings, records, z, above, day)?;
+    if reply.len() < DAY_REPLY_LENGTH {
+        return Err(Refusal::ReplyRoom);
+    }
+    put_day(reply, count);
+    Ok(())
 }
 
 // Writes the image of a fresh logger.
@@ -124,10 +191,7 @@ fn put_day(reply: &mut [u8], day: DayCount)
 pub extern "C" fn pq_begin(settings: &[u8], image: &mut [u8]) -> u32
     ensures { begun_to result image.new ≡ begun settings.now image.old }
 {
-    match Logger::start(settings) {
-        Started::Yielded(logger) => logger.save(image),
-        Started::Refused(number) => number,
-    }
+    numbers::answer_number(begin(settings, image))
 }
 
 // Restores the logger of an image, feeds it and saves it into the next image; the reply tells what feed tells.
@@ -142,28 +206,7 @@ pub extern "C" fn pq_advance(
     ensures { advanced_to result next.new records.new reply.new
         ≡ advanced image.now samples.now next.old records.old reply.old }
 {
-    let resumed = Logger::resume(image);
-    let answer = resumed.answer;
-    let logger = resumed.logger;
-    match answer {
-        Acceptance::Refused(number) => number,
-        Acceptance::Accepted => {
-            if samples.len() % 2 != 0 {
-                return 12;
-            }
-            if next.len() < bodies::IMAGE_LENGTH {
-                return 7;
-            }
-            if reply.len() < REPLY_LENGTH {
-                return 13;
-            }
-            let fed = feed_chunks(logger, samples, records);
-            let after = fed.logger;
-            let told = fed.told;
-            put_reply(reply, told);
-            after.save(next)
-        }
-    }
+    numbers::answer_number(advance(image, samples, next, records, reply))
 }
 
 // What advance with these samples and as much record space would reply and write: the logger of the image is fed and dropped. There is no next image.
@@ -172,24 +215,7 @@ pub extern "C" fn pq_try(image: &[u8], samples: &[u8], scratch: &mut [u8], reply
     ensures { block_tried_to result scratch.new reply.new
         ≡ block_tried image.now samples.now scratch.old reply.old }
 {
-    let resumed = Logger::resume(image);
-    let answer = resumed.answer;
-    let logger = resumed.logger;
-    match answer {
-        Acceptance::Refused(number) => number,
-        Acceptance::Accepted => {
-            if samples.len() % 2 != 0 {
-                return 12;
-            }
-            if reply.len() < REPLY_LENGTH {
-                return 13;
-            }
-            let fed = feed_chunks(logger, samples, scratch);
-            let told = fed.told;
-            put_reply(reply, told);
-            0
-        }
-    }
+    numbers::answer_number(try_block(image, samples, scratch, reply))
 }
 
 // Counts the rapid voltage changes of a day in a list of records; `above` is 0 up to 35 kV, and any other number above. The reply tells both counts, and
@@ -206,16 +232,7 @@ pub extern "C" fn pq_count_day(
     ensures { counted_to result reply.new
         ≡ counted settings.now records.now z (not (above ≡ᵇ 0)) day reply.old }
 {
-    match day_count::count_day(settings, records, z, above != 0, day) {
-        Counted::Refused(number) => number,
-        Counted::Day(count) => {
-            if reply.len() < DAY_REPLY_LENGTH {
-                return 13;
-            }
-            put_day(reply, count);
-            0
-        }
-    }
+    numbers::answer_number(count_day(settings, records, z, above != 0, day, reply))
 }
 
 // Records of the earlier edition as records of this one.
@@ -223,7 +240,7 @@ pub extern "C" fn pq_count_day(
 pub extern "C" fn pq_convert_records(earlier: &[u8], records: &mut [u8]) -> u32
     ensures { converted_to result records.new ≡ records_converted earlier_width count_width earlier.now records.old }
 {
-    conversion::convert_records(earlier, records)
+    numbers::answer_number(conversion::convert_records(earlier, records))
 }
 
 // And back.
@@ -231,7 +248,7 @@ pub extern "C" fn pq_convert_records(earlier: &[u8], records: &mut [u8]) -> u32
 pub extern "C" fn pq_convert_records_back(records: &[u8], earlier: &mut [u8]) -> u32
     ensures { converted_to result earlier.new ≡ records_converted count_width earlier_width records.now earlier.old }
 {
-    conversion::convert_records_back(records, earlier)
+    numbers::answer_number(conversion::convert_records_back(records, earlier))
 }
 
 // An image of the earlier edition as an image of this one.
@@ -239,7 +256,7 @@ pub extern "C" fn pq_convert_records_back(records: &[u8], earlier: &mut [u8]) ->
 pub extern "C" fn pq_convert_image(earlier: &[u8], image: &mut [u8]) -> u32
     ensures { converted_to result image.new ≡ image_converted earlier_width count_width earlier.now image.old }
 {
-    conversion::convert_image(earlier, image)
+    numbers::answer_number(conversion::convert_image(earlier, image))
 }
 
 // And back.
@@ -247,5 +264,5 @@ pub extern "C" fn pq_convert_image(earlier: &[u8], image: &mut [u8]) -> u32
 pub extern "C" fn pq_convert_image_back(image: &[u8], earlier: &mut [u8]) -> u32
     ensures { converted_to result earlier.new ≡ image_converted count_width earlier_width image.now earlier.old }
 {
-    conversion::convert_image_back(image, earlier)
+    numbers::answer_number(conversion::convert_image_back(image, earlier))
 }

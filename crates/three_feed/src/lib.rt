@@ -12,17 +12,16 @@ ghost use Rattle.lanes.specs.Lanes.{SquaresFit};
 ghost use Rattle.three_feed.specs.Feed.{RoomFor, walked_with, walked_of};
 
 use joint::{Joint, JointSums};
-use reading::Told;
+use reading::{Stop, Told};
 use records::RECORD_LENGTH;
 use rms::{Gatherer, Share};
 use settings::Settings;
-use three_half::HalfEnd;
-use three_state::Gatherers;
+use three_reading::Three;
 
 // What a walk leaves of the logger beside the windows, and what it tells, in triples.
 #[derive(Clone, Copy)]
 pub struct ThreeWalked {
-    pub gatherers: Gatherers,
+    pub gatherers: Three<Gatherer>,
     pub joint: Joint,
     pub told: Told,
 }
@@ -39,29 +38,25 @@ fn cut_of(gatherer: Gatherer, half_length: u32, block: &[i16]) -> Share
 
 // The end of a walk, with the triples that leave the half-cycle in progress. The lanes are room to work in; what is left there is of no use.
 fn end_walk(
-    gatherers: Gatherers,
+    gatherers: Three<Gatherer>,
     joint: Joint,
     block: &[i16],
-    lane_a: &mut [i16],
-    lane_b: &mut [i16],
-    lane_c: &mut [i16],
+    lane_a: &mut [i16; 256],
+    lane_b: &mut [i16; 256],
+    lane_c: &mut [i16; 256],
     taken: usize,
     written: usize,
-    why: u32,
+    why: Option<Stop>,
 ) -> ThreeWalked
-    requires { (length block.now % 3 ≡ 0) × RoomFor gatherers (length block.now / 3)
-        × (length lane_a.old ≡ 256) × (length lane_b.old ≡ 256) × (length lane_c.old ≡ 256) }
+    requires { (length block.now % 3 ≡ 0) × RoomFor gatherers (length block.now / 3) }
     ensures { (result ≡ walked_with gatherers joint (triples_of block.now) taken written why) × SquaresFit (triples_of block.now) }
 {
     let parts = lanes::parts_of(block, lane_a, lane_b, lane_c);
-    let a = gatherers.a;
-    let b = gatherers.b;
-    let c = gatherers.c;
     ThreeWalked {
-        gatherers: Gatherers {
-            a: a.with_part(parts.a),
-            b: b.with_part(parts.b),
-            c: c.with_part(parts.c),
+        gatherers: Three {
+            a: gatherers.a.with_part(parts.a),
+            b: gatherers.b.with_part(parts.b),
+            c: gatherers.c.with_part(parts.c),
         },
         joint,
         told: Told {
@@ -76,12 +71,12 @@ fn end_walk(
 // then the triples that are left.
 pub fn walk(
     settings: Settings,
-    gatherers: Gatherers,
+    gatherers: Three<Gatherer>,
     joint: Joint,
-    a: &mut [u32],
-    b: &mut [u32],
-    c: &mut [u32],
-    marks: &mut [u8],
+    a: &mut [u32; 120],
+    b: &mut [u32; 120],
+    c: &mut [u32; 120],
+    marks: &mut [u8; 120],
     block: &[i16],
     records: &mut [u8],
 ) -> ThreeWalked
@@ -103,12 +98,11 @@ pub fn walk(
         a: window::sum_of(a),
         b: window::sum_of(b),
         c: window::sum_of(c),
-        marks: window::sum_marks(marks),
+        marks: window::sum_of(marks),
     };
     let mut at: usize = 0;
     let mut written: usize = 0;
-    let first = g.a;
-    let mut share = cut_of(first, half_length, block);
+    let mut share = cut_of(g.a, half_length, block);
     while share.completes {
         let end = at + share.count;
         let start = 3 * at;
@@ -129,7 +123,7 @@ pub fn walk(
             &mut records[behind..],
         );
         match ended {
-            HalfEnd::Refused(why) => {
+            Err(stop) => {
                 let taken = end - 1;
                 let rest = 3 * taken;
                 return end_walk(
@@ -141,18 +135,17 @@ pub fn walk(
                     &mut lane_c,
                     taken,
                     written,
-                    why,
+                    Some(stop),
                 );
             }
-            HalfEnd::Taken(half) => {
+            Ok(half) => {
                 // Made again: carried through `complete`, the gatherers would be copied once more at every half-cycle.
                 g = three_half::halves_of(g, parts);
                 kept = half.joint;
                 sums = half.sums;
                 written += half.written;
                 at = end;
-                let own = g.a;
-                share = cut_of(own, half_length, &block[stop..]);
+                share = cut_of(g.a, half_length, &block[stop..]);
             }
         }
     }
@@ -166,6 +159,6 @@ pub fn walk(
         &mut lane_c,
         triples,
         written,
-        0,
+        None,
     )
 }

@@ -1,28 +1,29 @@
 -- What the end of a half-cycle gives, in the parts that the code keeps a three-phase logger's state in.
-use Rattle.std.specs.Prelude.{◌≡◌, Bool, ◌||◌, List, ℕ, zero, suc, ◌+◌, ◌*◌, ◌^◌, ◌≤◌, ◌<◌, length}
+use Rattle.std.specs.Prelude.{◌≡◌, Bool, ◌||◌, List, ℕ, zero, suc, ◌+◌, ◌*◌, ◌^◌, ◌≤◌, ◌<◌, length, Result, Ok, Err}
 use Rattle.settings.specs.declared.Settings.{Settings}
 use Rattle.settings.specs.declared.Scaled.{Scaled}
 use Rattle.settings.specs.Settings.{scaled_of}
+use Rattle.reading.specs.declared.Stop.{Stop}
+use Rattle.reading.specs.Told.{stop_number}
 use Rattle.reading.specs.Values.{rms}
 use Rattle.reading.specs.Records.{record_bytes}
 use Rattle.reading.specs.Engineer.{over, room}
+use Rattle.rms.specs.declared.Gatherer.{Gatherer}
+use Rattle.rms.specs.declared.Part.{Part}
 use Rattle.rms.specs.Gather.{PartFits}
-use Rattle.three_reading.specs.Three.{Three, any_of, Channel, at}
+use Rattle.three_reading.specs.Three.{Three, any_of, Channel}
 use Rattle.three_reading.specs.Three.Channel.{on_a, on_b, on_c}
 use Rattle.joint.specs.declared.Joint.{Joint}
 use Rattle.joint.specs.declared.JointSums.{JointSums}
 use Rattle.joint.specs.declared.Values.{Values}
 use Rattle.joint.specs.Joint.{three_of, joint_sums_of}
-use Rattle.three_state.specs.declared.Gatherers.{Gatherers}
-use Rattle.three_state.specs.declared.Parts.{Parts}
 use Rattle.three_state.specs.declared.ThreeState.{ThreeState}
 use Rattle.three_state.specs.ThreeState.{gatherer_at, windows_in, three_with, ValidThree}
 use Rattle.three_state.specs.ThreeStep.{part_at, with_halves, three_half_due, three_half, three_why_not}
-use Rattle.three_half.specs.declared.HalfEnd.{HalfEnd}
-use Rattle.three_half.specs.declared.HalfEnd.TheVariants.{Taken, Refused}
+use Rattle.three_half.specs.declared.Half.{Half}
 
 -- a logger, and a part of each channel that fits the half-cycle in progress, and is taken as its end
-pub record HalfReady (s : Settings) (t : Scaled) (g : Gatherers) (j : Joint) (a : JointSums) (ws : Three (List ℕ)) (ms : List ℕ) (p : Parts) : Type 0 where
+pub record HalfReady (s : Settings) (t : Scaled) (g : Three Gatherer) (j : Joint) (a : JointSums) (ws : Three (List ℕ)) (ms : List ℕ) (p : Three Part) : Type 0 where
   pub valid : ValidThree (three_with s g j ws ms)
   pub scaled-is : t ≡ scaled_of s
   pub sums-are : a ≡ joint_sums_of ws ms
@@ -37,7 +38,7 @@ pub record HalfOutcome : Type 0 where
   pub bytes : List ℕ
 
 -- by 01's number: taken, or nothing changed
-abbrev pub half_by : ℕ → ThreeState → Parts → List ℕ → HalfOutcome
+abbrev pub half_by : ℕ → ThreeState → Three Part → List ℕ → HalfOutcome
 half_by zero st p lent = record {
   after = three_half st p;
   sums = joint_sums_of (windows_in (three_half st p)) (three_half st p).marks;
@@ -47,38 +48,27 @@ half_by zero st p lent = record {
 }
 half_by (suc y) st p lent = record { after = st; sums = joint_sums_of (windows_in st) st.marks; written = 0; why = suc y; bytes = lent }
 
-unfoldable pub half_outcome : ThreeState → Parts → List ℕ → HalfOutcome
+unfoldable pub half_outcome : ThreeState → Three Part → List ℕ → HalfOutcome
 half_outcome st p lent = half_by (three_why_not st p (room lent)) st p lent
 
--- the same of what the code gives, by each case of its enum: where it is not taken, what was before stays
-abbrev pub half_of : Settings → Gatherers → Joint → JointSums → Parts → HalfEnd → Three (List ℕ) → List ℕ → List ℕ → HalfOutcome
-half_of s g j sums p (Taken h) ws ms out =
+-- the same of what the code gives: where it is not taken, what was before stays
+abbrev pub half_of : Settings → Three Gatherer → Joint → JointSums → Three Part → Result Half Stop → Three (List ℕ) → List ℕ → List ℕ → HalfOutcome
+half_of s g j sums p (Ok h) ws ms out =
     record { after = three_with s (with_halves g p) h.joint ws ms; sums = h.sums; written = h.written; why = 0; bytes = out }
-half_of s g j sums p (Refused why) ws ms out = record { after = three_with s g j ws ms; sums = sums; written = 0; why = why; bytes = out }
-
--- 0 is not why
-abbrev pub WhySaid : HalfEnd → Type 0
-WhySaid (Taken h) = Unit {0}
-WhySaid (Refused why) = 0 < why
-
--- what the code gives is an outcome
-pub record HalfIs (s : Settings) (g : Gatherers) (j : Joint) (sums : JointSums) (p : Parts) (end : HalfEnd) (ws : Three (List ℕ)) (ms out : List ℕ)
-    (o : HalfOutcome) : Type 0 where
-  pub outcome-is : half_of s g j sums p end ws ms out ≡ o
-  pub why-said : WhySaid end
+half_of s g j sums p (Err stop) ws ms out = record { after = three_with s g j ws ms; sums = sums; written = 0; why = stop_number stop; bytes = out }
 
 -- a part more leaves a sum within 64 bits
-abbrev pub SumsFit : Gatherers → Parts → Type 0
+abbrev pub SumsFit : Three Gatherer → Three Part → Type 0
 SumsFit g p = (c : Channel) → (gatherer_at c g).sum + (part_at c p).squares < 2 ^ 64
 
 -- the values that end with the half-cycles of h, where those of g were before: as the code has them
-abbrev pub size_at : ℕ → Gatherers → Gatherers → Channel → ℕ
+abbrev pub size_at : ℕ → Three Gatherer → Three Gatherer → Channel → ℕ
 size_at m g h c = rms m (gatherer_at c g).last (gatherer_at c h).last
 
-abbrev pub clipped_at : Gatherers → Gatherers → Channel → Bool
+abbrev pub clipped_at : Three Gatherer → Three Gatherer → Channel → Bool
 clipped_at g h c = (gatherer_at c g).last_clipped || (gatherer_at c h).last_clipped
 
-abbrev pub values_by : ℕ → Gatherers → Gatherers → Values
+abbrev pub values_by : ℕ → Three Gatherer → Three Gatherer → Values
 values_by m g h = record {
   a = size_at m g h on_a;
   b = size_at m g h on_b;
@@ -87,9 +77,8 @@ values_by m g h = record {
 }
 
 -- what the code needs to work them out
-pub record ValuesReady (s : Settings) (g h : Gatherers) (ws : Three (List ℕ)) : Type 0 where
+pub record ValuesReady (s : Settings) (g h : Three Gatherer) : Type 0 where
   pub samples-some : 0 < s.samples
   pub samples-most : s.samples ≤ 256
   pub last-le : (c : Channel) → (gatherer_at c g).last ≤ s.samples * 2 ^ 30
   pub half-le : (c : Channel) → (gatherer_at c h).last ≤ s.samples * 2 ^ 30
-  pub window-long : (c : Channel) → length (at c ws) ≡ 120

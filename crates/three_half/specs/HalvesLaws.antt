@@ -3,17 +3,17 @@ use Rattle.std.specs.Prelude.{List, ℕ, ◌+◌, ◌*◌, ◌^◌, ◌≤◌}
 use Rattle.std.proofs.Common.{arith}
 use Rattle.settings.specs.declared.Settings.{Settings}
 use Rattle.settings.specs.declared.Scaled.{Scaled}
+use Rattle.rms.specs.declared.Gatherer.{Gatherer}
+use Rattle.rms.specs.declared.Part.{Part}
 use Rattle.rms.specs.GatherLaws.{sum-le}
 use Rattle.three_reading.specs.Three.{Three, Channel}
 use Rattle.joint.specs.declared.Joint.{Joint}
 use Rattle.joint.specs.declared.JointSums.{JointSums}
-use Rattle.three_state.specs.declared.Gatherers.{Gatherers}
-use Rattle.three_state.specs.declared.Parts.{Parts}
 use Rattle.three_state.specs.ThreeState.{gatherer_at}
 use Rattle.three_state.specs.ThreeStep.{part_at}
 use Rattle.three_half.specs.Halves.{HalfReady, SumsFit}
 
-module _ {s : Settings} {t : Scaled} {g : Gatherers} {j : Joint} {a : JointSums} {ws : Three (List ℕ)} {ms : List ℕ} {p : Parts}
+module _ {s : Settings} {t : Scaled} {g : Three Gatherer} {j : Joint} {a : JointSums} {ws : Three (List ℕ)} {ms : List ℕ} {p : Three Part}
     (pre : HalfReady s t g j a ws ms p) where
   pub sum-at : (c : Channel) → (gatherer_at c g).sum + (part_at c p).squares ≤ s.samples * 2 ^ 30
   sum-at c = sum-le s.samples (gatherer_at c g) (part_at c p) (pre.valid.gatherer-valid c) (pre.part-fits c)

@@ -1,21 +1,21 @@
 // The end of a half-cycle of a three-phase logger: a part of each channel, the values that end with it, and their records.
 #![tactic(auto)]
 
-ghost use Rattle.std.specs.Prelude.{◌≡◌, ◌*◌, ◌^◌, ◌≤◌, ◌<◌, length};
+ghost use Rattle.std.specs.Prelude.{◌≡◌, ◌*◌, ◌^◌, ◌≤◌, ◌<◌};
 ghost use Rattle.reading.specs.Values.{rms};
 ghost use Rattle.joint.specs.Joint.{three_of, sizes_of, Small3, pushed_all};
 ghost use Rattle.three_state.specs.ThreeState.{three_with};
 ghost use Rattle.three_state.specs.ThreeStep.{with_halves};
-ghost use Rattle.three_half.specs.Halves.{HalfReady, half_outcome, HalfIs, SumsFit, ValuesReady, values_by};
+ghost use Rattle.three_half.specs.Halves.{HalfReady, half_of, half_outcome, SumsFit, ValuesReady, values_by};
 
 use joint::{Joint, JointSums, Values};
-use reading::LAST_VALUE;
+use reading::{LAST_VALUE, Stop};
 use records::RECORD_LENGTH;
-use rms::Gatherer;
+use rms::{Gatherer, Part};
 use settings::{Scaled, Settings};
-use three_state::{Gatherers, Parts};
+use three_reading::Three;
 
-// What the end of a half-cycle leaves of the logger beside the gatherers and the windows, the windows' sums, and how many records were written.
+// What a half-cycle that is taken leaves of the logger beside the gatherers and the windows, the windows' sums, and how many records were written.
 #[derive(Clone, Copy)]
 pub struct Half {
     pub joint: Joint,
@@ -23,23 +23,15 @@ pub struct Half {
     pub written: usize,
 }
 
-// It is taken, or not, and why. What stays as it was is not handed back: it would be copied at every half-cycle.
-#[derive(Clone, Copy)]
-pub enum HalfEnd {
-    Taken(Half),
-    Refused(u32),
-}
-
 // The value that ends with a half-cycle of one channel, sought near the value before.
 fn value_of(
     settings: Settings,
     gatherer: Gatherer,
     half: Gatherer,
-    window: &[u32],
+    window: &[u32; 120],
     count: u64,
 ) -> u32
-    requires { (0 < settings.samples) × (settings.samples ≤ 256) × (gatherer.last ≤ settings.samples * 2 ^ 30) × (half.last ≤ settings.samples * 2 ^ 30)
-        × (length window.now ≡ 120) }
+    requires { (0 < settings.samples) × (settings.samples ≤ 256) × (gatherer.last ≤ settings.samples * 2 ^ 30) × (half.last ≤ settings.samples * 2 ^ 30) }
     ensures { (result ≡ rms settings.samples gatherer.last half.last) × (result ≤ 524288) }
 {
     let near = window::newest(window, settings.window_length(), count);
@@ -47,46 +39,37 @@ fn value_of(
 }
 
 // The gatherers with a part of each channel that ends the half-cycle in progress.
-pub fn halves_of(gatherers: Gatherers, parts: Parts) -> Gatherers
+pub fn halves_of(gatherers: Three<Gatherer>, parts: Three<Part>) -> Three<Gatherer>
     requires { SumsFit gatherers parts }
     ensures { result ≡ with_halves gatherers parts }
 {
-    let a = gatherers.a;
-    let b = gatherers.b;
-    let c = gatherers.c;
-    Gatherers {
-        a: a.with_half(parts.a),
-        b: b.with_half(parts.b),
-        c: c.with_half(parts.c),
+    Three {
+        a: gatherers.a.with_half(parts.a),
+        b: gatherers.b.with_half(parts.b),
+        c: gatherers.c.with_half(parts.c),
     }
 }
 
 // The values that end with the half-cycles of `halves`: a joint value is clipped if any channel's is.
 fn values_of(
     settings: Settings,
-    gatherers: Gatherers,
-    halves: Gatherers,
-    a: &[u32],
-    b: &[u32],
-    c: &[u32],
+    gatherers: Three<Gatherer>,
+    halves: Three<Gatherer>,
+    a: &[u32; 120],
+    b: &[u32; 120],
+    c: &[u32; 120],
     count: u64,
 ) -> Values
-    requires { ValuesReady settings gatherers halves (three_of a.now b.now c.now) }
+    requires { ValuesReady settings gatherers halves }
     ensures { (result ≡ values_by settings.samples gatherers halves) × Small3 (sizes_of result) }
 {
-    let before_a = gatherers.a;
-    let before_b = gatherers.b;
-    let before_c = gatherers.c;
-    let half_a = halves.a;
-    let half_b = halves.b;
-    let half_c = halves.c;
     Values {
-        a: value_of(settings, before_a, half_a, a, count),
-        b: value_of(settings, before_b, half_b, b, count),
-        c: value_of(settings, before_c, half_c, c, count),
-        clipped: (before_a.last_clipped | half_a.last_clipped)
-            | ((before_b.last_clipped | half_b.last_clipped)
-                | (before_c.last_clipped | half_c.last_clipped)),
+        a: value_of(settings, gatherers.a, halves.a, a, count),
+        b: value_of(settings, gatherers.b, halves.b, b, count),
+        c: value_of(settings, gatherers.c, halves.c, c, count),
+        clipped: (gatherers.a.last_clipped | halves.a.last_clipped)
+            | ((gatherers.b.last_clipped | halves.b.last_clipped)
+                | (gatherers.c.last_clipped | halves.c.last_clipped)),
     }
 }
 
@@ -94,12 +77,12 @@ fn values_of(
 fn push_values(
     window_length: usize,
     count: usize,
-    a: &mut [u32],
-    b: &mut [u32],
-    c: &mut [u32],
+    a: &mut [u32; 120],
+    b: &mut [u32; 120],
+    c: &mut [u32; 120],
     values: Values,
 )
-    requires { (0 < window_length) × (window_length ≤ length a.old) × (window_length ≤ length b.old) × (window_length ≤ length c.old) }
+    requires { (0 < window_length) × (window_length ≤ 120) }
     ensures { three_of a.new b.new c.new
         ≡ pushed_all window_length count (three_of a.old b.old c.old) (sizes_of values) }
 {
@@ -112,27 +95,23 @@ fn push_values(
 pub fn complete(
     settings: Settings,
     scaled: Scaled,
-    gatherers: Gatherers,
+    gatherers: Three<Gatherer>,
     joint: Joint,
     sums: JointSums,
-    a: &mut [u32],
-    b: &mut [u32],
-    c: &mut [u32],
-    marks: &mut [u8],
-    parts: Parts,
+    a: &mut [u32; 120],
+    b: &mut [u32; 120],
+    c: &mut [u32; 120],
+    marks: &mut [u8; 120],
+    parts: Three<Part>,
     records: &mut [u8],
-) -> HalfEnd
+) -> Result<Half, Stop>
     requires { HalfReady settings scaled gatherers joint sums (three_of a.old b.old c.old) marks.old parts }
-    ensures { HalfIs settings gatherers joint sums parts result
-        (three_of a.new b.new c.new) marks.new records.new
-        (half_outcome (three_with settings gatherers joint (three_of a.old b.old c.old) marks.old)
-        parts records.old) }
+    ensures { half_of settings gatherers joint sums parts result (three_of a.new b.new c.new) marks.new records.new
+        ≡ half_outcome (three_with settings gatherers joint (three_of a.old b.old c.old) marks.old) parts records.old }
 {
     let halves = halves_of(gatherers, parts);
-    let own = gatherers.a;
-    let whole = own.whole;
-    if !whole {
-        return HalfEnd::Taken(Half {
+    if !gatherers.a.whole {
+        return Ok(Half {
             joint,
             sums,
             written: 0,
@@ -140,14 +119,14 @@ pub fn complete(
     }
     let count = joint.count;
     if count == LAST_VALUE {
-        return HalfEnd::Refused(2);
+        return Err(Stop::End);
     }
     let values = values_of(settings, gatherers, halves, a, b, c, count);
     let tried = joint.try_values(settings, scaled, a, b, c, marks, sums, values);
     let due = tried.due;
     let written = due.count();
     if records.len() / RECORD_LENGTH < written {
-        return HalfEnd::Refused(1);
+        return Err(Stop::Room);
     }
     let length = settings.window_length() as usize;
     push_values(length, count as usize, a, b, c, values);
@@ -156,14 +135,12 @@ pub fn complete(
         length,
         count as usize,
         sums.marks,
-        numbers::flag(values.clipped),
+        u8::from(values.clipped),
     );
     due.put(records);
-    let after = tried.after;
-    let sums_after = tried.sums;
-    HalfEnd::Taken(Half {
-        joint: after,
-        sums: sums_after,
+    Ok(Half {
+        joint: tried.after,
+        sums: tried.sums,
         written,
     })
 }

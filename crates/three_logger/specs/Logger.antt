@@ -1,34 +1,28 @@
 -- What the calls of a three-phase logger leave, from the parts that their answers have.
-use Rattle.std.specs.Prelude.{List, ℕ, zero, suc, ◌*◌, ℤ}
+use Rattle.std.specs.Prelude.{List, ℕ, zero, suc, ◌*◌, ℤ, Result, Ok, Err}
 use Rattle.numbers.specs.Answers.{Answered}
 use Rattle.numbers.specs.Answers.Answered.{accepted, refused}
-use Rattle.reading.specs.declared.Told.{Told}
+use Rattle.numbers.specs.declared.Refusal.{Refusal}
+use Rattle.numbers.specs.Refusals.{answer_with}
+use Rattle.reading.specs.Told.{Told}
 use Rattle.three_reading.specs.ThreeCalls.{ThreeOutcome}
 use Rattle.three_reading.specs.ThreeEngineer.{feed_refusal}
 use Rattle.three_reading.specs.Three.{triples_of}
 use Rattle.three_state.specs.declared.ThreeState.{ThreeState}
 use Rattle.three_state.specs.ThreeState.{ValidThree}
 use Rattle.three_state.specs.ThreeFed.{three_fed_with}
-use Rattle.three_logger.specs.declared.ThreeStarted.{ThreeStarted}
-use Rattle.three_logger.specs.declared.ThreeStarted.TheVariants as started
-use Rattle.three_logger.specs.declared.FeedAnswer.{FeedAnswer}
-use Rattle.three_logger.specs.declared.FeedAnswer.TheVariants.{Taken, Refused}
+use Rattle.three_logger.specs.declared.ThreeLogger.{ThreeLogger}
 
--- start's answer, as 01 gives it: each case of the code's enum
-abbrev pub three_started_told : ThreeStarted → Answered ThreeState
-three_started_told (started.Yielded l) = accepted l.state
-three_started_told (started.Refused n) = refused n
+-- start's answer, as 01 gives it
+abbrev pub three_started_told : Result ThreeLogger Refusal → Answered ThreeState
+three_started_told r = answer_with (λ (l : ThreeLogger). l.state) r
 
 -- a logger that start yields is valid
-abbrev pub ThreeYieldedValid : ThreeStarted → Type 0
-ThreeYieldedValid (started.Yielded l) = ValidThree l.state
-ThreeYieldedValid (started.Refused n) = Unit {0}
+abbrev pub ThreeYieldedValid : Result ThreeLogger Refusal → Type 0
+ThreeYieldedValid (Ok l) = ValidThree l.state
+ThreeYieldedValid (Err refusal) = Unit {0}
 
--- feed's answer, as 02 gives it: each case of the code's enum
-abbrev pub answer_told : FeedAnswer → Answered Told
-answer_told (Taken t) = accepted t
-answer_told (Refused n) = refused n
-
+-- what a feed leaves, and its answer as 02 gives it
 abbrev pub three_fed_to : ThreeState → Answered Told → List ℕ → ThreeOutcome ThreeState
 three_fed_to st answer bytes = record { after = st; answer = answer; bytes = bytes }
 

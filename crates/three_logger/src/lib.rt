@@ -4,11 +4,15 @@
 ghost use Rattle.std.specs.Prelude.{◌≡◌};
 ghost use Rattle.settings.specs.Settings.{ValidSettings};
 ghost use Rattle.three_state.specs.ThreeState.{three_fresh, ValidThree};
-ghost use Rattle.three_logger.specs.Logger.{three_started_told, ThreeYieldedValid, answer_told, three_fed_to};
+ghost use Rattle.numbers.specs.Refusals.{answer_with};
+ghost use Rattle.reading.specs.Told.{told_in};
+ghost use Rattle.three_reading.specs.ThreeReadings.{three_readings_in};
+ghost use Rattle.three_logger.specs.Logger.{three_started_told, ThreeYieldedValid, three_fed_to};
 ghost use Rattle.three_logger.specs.Calls.{three_calls};
 
+use numbers::Refusal;
 use reading::Told;
-use settings::{Settings, SettingsRead};
+use settings::Settings;
 use three_reading::ThreeReadings;
 use three_state::ThreeState;
 
@@ -18,36 +22,20 @@ pub struct ThreeLogger {
     state: ThreeState,
 }
 
-// What start yields, or tells.
-#[derive(Clone, Copy)]
-pub enum ThreeStarted {
-    Yielded(ThreeLogger),
-    Refused(u32),
-}
-
-// What feed answers: what it tells, or the refusal.
-#[derive(Clone, Copy)]
-pub enum FeedAnswer {
-    Taken(Told),
-    Refused(u32),
-}
-
 // What feed leaves and answers.
 #[derive(Clone, Copy)]
 pub struct ThreeFed {
     pub logger: ThreeLogger,
-    pub answer: FeedAnswer,
+    pub answer: Result<Told, Refusal>,
 }
 
 impl ThreeLogger {
     // A fresh logger from settings bytes; or the refusal, and no logger.
-    pub fn start(bytes: &[u8]) -> ThreeStarted
+    pub fn start(bytes: &[u8]) -> Result<ThreeLogger, Refusal>
         ensures { (three_started_told result ≡ three_calls.start bytes.now) × ThreeYieldedValid result }
     {
-        match Settings::from_bytes(bytes) {
-            SettingsRead::Read(settings) => ThreeStarted::Yielded(ThreeLogger::fresh(settings)),
-            SettingsRead::Refused(number) => ThreeStarted::Refused(number),
-        }
+        let settings = Settings::from_bytes(bytes)?;
+        Ok(ThreeLogger::fresh(settings))
     }
 
     // A logger that has taken no triple, of settings that were read.
@@ -55,48 +43,52 @@ impl ThreeLogger {
         requires { ValidSettings settings }
         ensures { (result.state ≡ three_fresh settings) × ValidThree result.state }
     {
-        let state = ThreeState::fresh(settings);
-        ThreeLogger { state }
+        ThreeLogger {
+            state: ThreeState::fresh(settings),
+        }
     }
 
     // The greatest number of the block's triples that 02 allows, and their records; a block that is not a multiple of three samples is refused.
     pub fn feed(self, block: &[i16], records: &mut [u8]) -> ThreeFed
         requires { ValidThree self.state }
-        ensures { (three_fed_to result.logger.state (answer_told result.answer) records.new ≡ three_calls.feed self.state block.now records.old)
+        ensures { (three_fed_to result.logger.state (answer_with told_in result.answer) records.new ≡ three_calls.feed self.state block.now records.old)
             × ValidThree result.logger.state }
     {
         if block.len() % 3 != 0 {
             return ThreeFed {
                 logger: self,
-                answer: FeedAnswer::Refused(14),
+                answer: Err(Refusal::PartTriple),
             };
         }
-        let settings = self.state.settings;
-        let gatherers = self.state.gatherers;
-        let joint = self.state.joint;
         let mut a = self.state.a;
         let mut b = self.state.b;
         let mut c = self.state.c;
         let mut marks = self.state.marks;
         let walked = three_feed::walk(
-            settings, gatherers, joint, &mut a, &mut b, &mut c, &mut marks, block, records,
+            self.state.settings,
+            self.state.gatherers,
+            self.state.joint,
+            &mut a,
+            &mut b,
+            &mut c,
+            &mut marks,
+            block,
+            records,
         );
-        let gathered = walked.gatherers;
-        let detected = walked.joint;
         let told = walked.told;
         ThreeFed {
             logger: ThreeLogger {
                 state: ThreeState {
-                    settings,
-                    gatherers: gathered,
-                    joint: detected,
+                    settings: self.state.settings,
+                    gatherers: walked.gatherers,
+                    joint: walked.joint,
                     a,
                     b,
                     c,
                     marks,
                 },
             },
-            answer: FeedAnswer::Taken(Told {
+            answer: Ok(Told {
                 taken: 3 * told.taken,
                 written: told.written,
                 why: told.why,
@@ -107,9 +99,8 @@ impl ThreeLogger {
     // What look tells.
     pub fn look(self) -> ThreeReadings
         requires { ValidThree self.state }
-        ensures { result ≡ three_calls.look self.state }
+        ensures { three_readings_in result ≡ three_calls.look self.state }
     {
-        let state = self.state;
-        state.look()
+        self.state.look()
     }
 }
