@@ -2,7 +2,7 @@
 use Rattle.std.specs.Prelude.{List, ℤ}
 use Rattle.reading.specs.declared.Told.{Told}
 use Rattle.greedy.specs.AllFed.{fed_all_by}
-use Rattle.three_reading.specs.Three.{Three}
+use Rattle.three_reading.specs.declared.Three.{Three}
 use Rattle.three_state.specs.ThreeStep.{three_machine}
 use Rattle.three_logger.specs.declared.ThreeLogger.{ThreeLogger}
 use Rattle.three_logger.specs.declared.FeedAnswer.{FeedAnswer}

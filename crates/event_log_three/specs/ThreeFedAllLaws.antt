@@ -16,12 +16,13 @@ use Rattle.greedy.proofs.CutterLaws.{sample-leaves}
 use Rattle.greedy.proofs.ProgressLaws.{lent-behind}
 use Rattle.greedy.specs.AllFed.{fed_all_by}
 use Rattle.greedy.proofs.AllFedLaws.{to_feed, rest_by, Turn, turn, left_while, chunk-falls, left_to, InHalf, left-part, left-first, left-value}
-use Rattle.three_reading.specs.Three.{Three, triples_of}
+use Rattle.rms.specs.declared.Part.{Part}
+use Rattle.three_reading.specs.declared.Three.{Three}
+use Rattle.three_reading.specs.Three.{triples_of}
 use Rattle.three_reading.specs.Three.Channel.{on_a}
 use Rattle.three_reading.specs.ThreeCalls.{ThreeOutcome}
 use Rattle.three_laws.specs.TriplesLaws.{length-triples, triples-take, triples-drop}
 use Rattle.joint.specs.Joint.{joint_after}
-use Rattle.three_state.specs.declared.Parts.{Parts}
 use Rattle.three_state.specs.declared.ThreeState.{ThreeState}
 use Rattle.three_state.specs.ThreeState.{ValidThree}
 use Rattle.three_state.specs.ThreeStep.{with_joints, with_gatherers, parts_of, with_halves, values_with, three_passes, three_half, three_cutter, three_machine}
@@ -132,7 +133,7 @@ left-next st x inside = sample-leaves three_cutter st x Less (left-part m v g in
     g : Gatherer
     g = st.gatherers.a
 
-    p : Parts
+    p : Three Part
     p = parts_of (x ∷ [])
 
     Less : ThreeState → Type 0

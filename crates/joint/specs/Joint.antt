@@ -29,7 +29,8 @@ use Rattle.rvc.specs.Phase.{moved_by, phase_under, ValidPhase}
 use Rattle.records.specs.declared.Due.{Due}
 use Rattle.records.specs.Due.{records_of}
 use Rattle.detection.specs.Detection.{stands_at, joined_of, WindowReady}
-use Rattle.three_reading.specs.Three.{Three, each, Channel, at, channel}
+use Rattle.three_reading.specs.declared.Three.{Three}
+use Rattle.three_reading.specs.Three.{each, Channel, at, channel}
 use Rattle.three_reading.specs.Three.Channel.{on_a, on_b, on_c}
 use Rattle.three_reading.specs.JointEvents.{begins_of, ends_of, joint_begins, joint_ends, joint_since, worst}
 use Rattle.three_reading.specs.JointChanges.{signals, joint_first_stand, joint_stood_before}

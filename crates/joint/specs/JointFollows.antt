@@ -27,7 +27,8 @@ use Rattle.rvc.specs.ChangeFollows.{settled-mark}
 use Rattle.rvc.specs.PhaseFollows.{phase-under, ended-under}
 use Rattle.records.specs.Due.{records_of}
 use Rattle.detection.specs.Detection.{stands_at}
-use Rattle.three_reading.specs.Three.{Three, each, Channel, at, channel, channels}
+use Rattle.three_reading.specs.declared.Three.{Three}
+use Rattle.three_reading.specs.Three.{each, Channel, at, channel, channels}
 use Rattle.three_reading.specs.Three.Channel.{on_a, on_b, on_c}
 use Rattle.three_reading.specs.JointEvents.{joint_begins, joint_ends, joint_since, worst, joint_threshold_due}
 use Rattle.three_reading.specs.JointChanges.{is_true, joint_next, signals, joint_first_stand, joint_dip_or_swell, joint_stood_before, greatest_of, joint_change_event, joint_change_over, joint_change_due}

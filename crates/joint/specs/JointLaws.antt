@@ -19,7 +19,8 @@ use Rattle.records.specs.declared.Due.{Due}
 use Rattle.detection.specs.declared.Joined.{Joined}
 use Rattle.detection.specs.Detection.{stands_at, sums_of, joined_of, WindowReady}
 use Rattle.detection.specs.DetectionLaws.{part-is, test-ready-at, steady-at}
-use Rattle.three_reading.specs.Three.{Three, Channel, at}
+use Rattle.three_reading.specs.declared.Three.{Three}
+use Rattle.three_reading.specs.Three.{Channel, at}
 use Rattle.three_reading.specs.Three.Channel.{on_a, on_b, on_c}
 use Rattle.three_reading.specs.JointEvents.{worst}
 use Rattle.joint.specs.declared.Values.{Values}

@@ -25,7 +25,8 @@ use Rattle.rvc.specs.SignalValid.{after-valid}
 use Rattle.rvc.specs.PhaseValid.{moved-valid}
 use Rattle.rvc.specs.PhaseRuleLaws.{allowed-valid}
 use Rattle.detection.specs.Detection.{stands_at}
-use Rattle.three_reading.specs.Three.{Three, Channel, at}
+use Rattle.three_reading.specs.declared.Three.{Three}
+use Rattle.three_reading.specs.Three.{Channel, at}
 use Rattle.three_reading.specs.Three.Channel.{on_a, on_b, on_c}
 use Rattle.three_reading.specs.JointEvents.{joint_begins, joint_ends, worst}
 use Rattle.joint.specs.declared.Values.{Values}

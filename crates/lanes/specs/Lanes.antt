@@ -1,9 +1,10 @@
 -- What the samples of one channel are where a block of triples is read as three rows of neighbours: the lane that the code lays side by side.
 use Rattle.std.specs.Prelude.{◌≡◌, List, [], ◌∷◌, ◌++◌, ℕ, zero, suc, ◌-◌, ◌*◌, ◌/◌, ◌%◌, ◌^◌, ◌≤◌, length, take, drop, ℤ}
 use Rattle.rms.specs.Gather.{part_of}
-use Rattle.three_reading.specs.Three.{Three, triples_of, Channel, at, channel}
+use Rattle.rms.specs.declared.Part.{Part}
+use Rattle.three_reading.specs.declared.Three.{Three}
+use Rattle.three_reading.specs.Three.{triples_of, Channel, at, channel}
 use Rattle.three_reading.specs.Three.Channel.{on_a, on_b, on_c}
-use Rattle.three_state.specs.declared.Parts.{Parts}
 use Rattle.three_state.specs.ThreeStep.{parts_of}
 
 -- one of three, by the number of its turn
@@ -46,5 +47,5 @@ abbrev pub SquaresFit : List (Three ℤ) → Type 0
 SquaresFit xs = (c : Channel) → (part_of (channel c xs)).squares ≤ length xs * 2 ^ 30
 
 -- the parts of triples, with that
-abbrev pub PartsAre : List (Three ℤ) → Parts → Type 0
+abbrev pub PartsAre : List (Three ℤ) → Three Part → Type 0
 PartsAre xs p = (p ≡ parts_of xs) × SquaresFit xs

@@ -6,7 +6,8 @@ use Rattle.reading.specs.Values.{square, squares}
 use Rattle.reading.specs.Clipping.{clipped, any_clipped}
 use Rattle.rms.specs.declared.Part.{Part}
 use Rattle.rms.specs.Gather.{part_of}
-use Rattle.three_reading.specs.Three.{Three, triples_of, Channel, at, channel}
+use Rattle.three_reading.specs.declared.Three.{Three}
+use Rattle.three_reading.specs.Three.{triples_of, Channel, at, channel}
 use Rattle.three_reading.specs.Three.Channel.{on_a, on_b, on_c}
 use Rattle.three_laws.specs.ChannelLaws.{length-channel, channel-append}
 use Rattle.three_laws.specs.TriplesLaws.{length-triples, triples-take, triples-drop}

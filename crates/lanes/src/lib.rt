@@ -6,7 +6,8 @@ ghost use Rattle.three_reading.specs.Three.{triples_of, channel};
 ghost use Rattle.three_reading.specs.Three.Channel.{on_a, on_b, on_c};
 ghost use Rattle.lanes.specs.Lanes.{by_turn, lane_in, row_length, laid, PartsAre};
 
-use three_state::Parts;
+use rms::Part;
+use three_reading::Three;
 
 // One of three samples, by its turn.
 fn chosen(turn: u16, x: i16, y: i16, z: i16) -> i16
@@ -78,7 +79,7 @@ fn row_length(n: usize) -> usize
 }
 
 // The part of each channel that triples are, at most one half-cycle of them; `a`, `b` and `c` are where their samples are laid side by side.
-pub fn parts_of(block: &[i16], a: &mut [i16], b: &mut [i16], c: &mut [i16]) -> Parts
+pub fn parts_of(block: &[i16], a: &mut [i16], b: &mut [i16], c: &mut [i16]) -> Three<Part>
     requires { (length block.now % 3 ≡ 0) × (length block.now ≤ 768) × (length a.old ≡ 256) × (length b.old ≡ 256)
         × (length c.old ≡ 256) }
     ensures { PartsAre (triples_of block.now) result
@@ -91,7 +92,7 @@ pub fn parts_of(block: &[i16], a: &mut [i16], b: &mut [i16], c: &mut [i16]) -> P
     let end = 3 * m;
     split(&block[..end], &mut a[..m], &mut b[..m], &mut c[..m]);
     split_in_order(&block[end..], &mut a[m..n], &mut b[m..n], &mut c[m..n]);
-    Parts {
+    Three {
         a: rms::sum_squares(&a[..n]),
         b: rms::sum_squares(&b[..n]),
         c: rms::sum_squares(&c[..n]),

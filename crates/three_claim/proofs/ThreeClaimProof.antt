@@ -15,7 +15,8 @@ use Rattle.records.specs.DueLaws.{length-record_bytes, record_bytes-append}
 use Rattle.greedy.specs.Greedy.{outcome_of}
 use Rattle.greedy.proofs.GreedyFollows.{Recording, fed_by-follows, recording-fed}
 use Rattle.state.proofs.StepFollows.{halves-none}
-use Rattle.three_reading.specs.Three.{Three, triples_of, joint_count}
+use Rattle.three_reading.specs.declared.Three.{Three}
+use Rattle.three_reading.specs.Three.{triples_of, joint_count}
 use Rattle.three_reading.specs.ThreeFeed.{joint_due_after, joint_records, joint_completed, joint_taken}
 use Rattle.three_reading.specs.ThreeEngineer.{Call, Answer, feed_refusal, taken_by, fed_answer, answer, recording_with, answers, recording_after, WellFormed}
 use Rattle.three_reading.specs.ThreeEngineer.Call.{feed, look}

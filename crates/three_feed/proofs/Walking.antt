@@ -12,18 +12,19 @@ use Rattle.rms.specs.CutLaws.{Within, cut-within}
 use Rattle.greedy.specs.Greedy.{fed_by}
 use Rattle.greedy.proofs.CutterLaws.{taken-if, feed-taken, feed-stops, feed-rest}
 use Rattle.greedy.proofs.ProgressLaws.{Progress, progress-none, progress-more, progress-last, part-long, lent-behind, back-behind}
-use Rattle.three_reading.specs.Three.{Three, Channel, at, triples_of, channel}
+use Rattle.rms.specs.declared.Gatherer.{Gatherer}
+use Rattle.rms.specs.declared.Part.{Part}
+use Rattle.three_reading.specs.declared.Three.{Three}
+use Rattle.three_reading.specs.Three.{Channel, at, triples_of, channel}
 use Rattle.three_reading.specs.Three.Channel.{on_a, on_b, on_c}
 use Rattle.three_laws.specs.ChannelLaws.{length-channel}
 use Rattle.three_laws.specs.TriplesLaws.{length-triples, triples-drop, triples-part}
 use Rattle.joint.specs.declared.Joint.{Joint}
 use Rattle.joint.specs.declared.JointSums.{JointSums}
 use Rattle.joint.specs.Joint.{joint_sums_of}
-use Rattle.three_state.specs.declared.Gatherers.{Gatherers}
-use Rattle.three_state.specs.declared.Parts.{Parts}
 use Rattle.three_state.specs.declared.ThreeState.{ThreeState}
-use Rattle.three_state.specs.ThreeState.{gatherer_at, windows_in, three_with, ValidThree}
-use Rattle.three_state.specs.ThreeStep.{parts_of, part_at, with_halves, three_passes, three_half_due, three_half, three_part, three_why_not, three_machine}
+use Rattle.three_state.specs.ThreeState.{windows_in, three_with, ValidThree}
+use Rattle.three_state.specs.ThreeStep.{parts_of, with_halves, three_passes, three_half_due, three_half, three_part, three_why_not, three_machine}
 use Rattle.three_state.proofs.ThreeStepLaws.{three_cuts}
 use Rattle.three_state.specs.ThreeStepValid.{three_part-valid, three_half-valid}
 use Rattle.three_state.specs.ThreeFed.{three_fed_with}
@@ -46,20 +47,20 @@ triples-behind : (a : ℕ) (block : List ℤ) → triples_of (take (length block
 triples-behind a block = ap triples_of (lent-behind (3 * a) block) ∙ triples-drop a block
 
 -- what a taken half-cycle gives, and one that is not
-half-taken : (y : ℕ) (o : HalfOutcome) (st : ThreeState) (p : Parts) (lent : List ℕ) → o ≡ half_by y st p lent → o.why ≡ 0 → (y ≡ 0) × (o ≡ half_by 0 st p lent)
+half-taken : (y : ℕ) (o : HalfOutcome) (st : ThreeState) (p : Three Part) (lent : List ℕ) → o ≡ half_by y st p lent → o.why ≡ 0 → (y ≡ 0) × (o ≡ half_by 0 st p lent)
 half-taken zero o st p lent e none = (refl, e)
 half-taken (suc y) o st p lent e none = absurd (omega (arith, ap (λ (k : HalfOutcome). k.why) e))
 
-half-refused : (y : ℕ) (o : HalfOutcome) (st : ThreeState) (p : Parts) (lent : List ℕ) → o ≡ half_by y st p lent → 0 < o.why →
+half-refused : (y : ℕ) (o : HalfOutcome) (st : ThreeState) (p : Three Part) (lent : List ℕ) → o ≡ half_by y st p lent → 0 < o.why →
     (o.why ≡ y) × (o.after ≡ st) × (o.bytes ≡ lent)
 half-refused zero o st p lent e some = absurd (omega (arith, ap (λ (k : HalfOutcome). k.why) e))
 half-refused (suc y) o st p lent e some = (ap (λ (k : HalfOutcome). k.why) e, ap (λ (k : HalfOutcome). k.after) e, ap (λ (k : HalfOutcome). k.bytes) e)
 
 -- what `cut_of`, `end_walk` and `walk` give, and what a walk has of the lanes
-abbrev CutIs : Settings → Gatherers → List (Three ℤ) → Share → Type 0
+abbrev CutIs : Settings → Three Gatherer → List (Three ℤ) → Share → Type 0
 CutIs s g xs share = share ≡ cut s.samples g.a (channel on_a xs)
 
-abbrev WalkEnds : Gatherers → Joint → List (Three ℤ) → ℕ → ℕ → ℕ → ThreeWalked → Type 0
+abbrev WalkEnds : Three Gatherer → Joint → List (Three ℤ) → ℕ → ℕ → ℕ → ThreeWalked → Type 0
 WalkEnds g j xs taken written why last = (last ≡ walked_with g j xs taken written why) × SquaresFit xs
 
 abbrev WalkIs : ThreeState → List (Three ℤ) → List ℕ → Settings → Three (List ℕ) → List ℕ → ThreeWalked → List ℕ → Type 0
@@ -74,14 +75,14 @@ three-long lanes p q r on_b = q
 three-long lanes p q r on_c = r
 
 -- the invariant of the walk
-module _ (s : Settings) (ws₀ : Three (List ℕ)) (ms₀ : List ℕ) (block : List ℤ) (lent : List ℕ) (g₀ : Gatherers) (j₀ : Joint) where
+module _ (s : Settings) (ws₀ : Three (List ℕ)) (ms₀ : List ℕ) (block : List ℤ) (lent : List ℕ) (g₀ : Three Gatherer) (j₀ : Joint) where
   abbrev first : ThreeState
   first = three_with s g₀ j₀ ws₀ ms₀
 
   abbrev all : List (Three ℤ)
   all = triples_of block
 
-  pub record Walking (ws : Three (List ℕ)) (ms out : List ℕ) (lanes : Three (List ℤ)) (g : Gatherers) (j : Joint) (sums : JointSums) (from written : ℕ)
+  pub record Walking (ws : Three (List ℕ)) (ms out : List ℕ) (lanes : Three (List ℤ)) (g : Three Gatherer) (j : Joint) (sums : JointSums) (from written : ℕ)
       (share : Share) : Type 0 where
     pub so_far : Progress three_machine ValidThree first all lent (three_with s g j ws ms) from written out
     pub sums-are : sums ≡ joint_sums_of ws ms
@@ -95,7 +96,7 @@ module _ (s : Settings) (ws₀ : Three (List ℕ)) (ms₀ : List ℕ) (block : L
     pub share-most : share.count ≤ 256
     pub samples-most : s.samples ≤ 256
 
-  walking : (ws : Three (List ℕ)) (ms out : List ℕ) (lanes : Three (List ℤ)) (g : Gatherers) (j : Joint) (sums : JointSums) (from written : ℕ) (share : Share) →
+  walking : (ws : Three (List ℕ)) (ms out : List ℕ) (lanes : Three (List ℤ)) (g : Three Gatherer) (j : Joint) (sums : JointSums) (from written : ℕ) (share : Share) →
       Progress three_machine ValidThree first all lent (three_with s g j ws ms) from written out → sums ≡ joint_sums_of ws ms →
       CutIs s g (drop from all) share → LanesLong lanes → length out ≡ length lent → length block % 3 ≡ 0 →
       Walking ws ms out lanes g j sums from written share
@@ -125,8 +126,8 @@ module _ (s : Settings) (ws₀ : Three (List ℕ)) (ms₀ : List ℕ) (block : L
       walking ws₀ ms₀ lent lanes g₀ j₀ sums 0 0 share (progress-none three_machine first all lent ok) sums-are cut-is lanes-long refl whole
 
 -- it turns and ends
-module _ {s : Settings} {ws₀ : Three (List ℕ)} {ms₀ : List ℕ} {block : List ℤ} {lent : List ℕ} {g₀ : Gatherers} {j₀ : Joint}
-    {ws : Three (List ℕ)} {ms out : List ℕ} {lanes : Three (List ℤ)} {g : Gatherers} {j : Joint} {sums : JointSums} {from written : ℕ} {share : Share}
+module _ {s : Settings} {ws₀ : Three (List ℕ)} {ms₀ : List ℕ} {block : List ℤ} {lent : List ℕ} {g₀ : Three Gatherer} {j₀ : Joint}
+    {ws : Three (List ℕ)} {ms out : List ℕ} {lanes : Three (List ℤ)} {g : Three Gatherer} {j : Joint} {sums : JointSums} {from written : ℕ} {share : Share}
     (inv : Walking s ws₀ ms₀ block lent g₀ j₀ ws ms out lanes g j sums from written share) where
   abbrev st₀ : ThreeState
   st₀ = three_with s g₀ j₀ ws₀ ms₀
@@ -155,7 +156,7 @@ module _ {s : Settings} {ws₀ : Three (List ℕ)} {ms₀ : List ℕ} {block : L
   whole-triples = omega (arith, inv.size)
 
   -- every channel has as many samples of the half-cycle in progress as channel a
-  same : (c : Channel) → (gatherer_at c g).count ≡ g.a.count
+  same : (c : Channel) → (at c g).count ≡ g.a.count
   same = inv.so_far.valid.same_count
 
   -- n triples more, which fit the gatherers where they fit channel a's
@@ -163,7 +164,7 @@ module _ {s : Settings} {ws₀ : Three (List ℕ)} {ms₀ : List ℕ} {block : L
   room_for n h c = (omega (arith, same c, inv.samples-most), (inv.so_far.valid.gatherer-valid c).1.0)
 
   fits_all : (ys : List (Three ℤ)) → SquaresFit ys → g.a.count + length ys ≤ s.samples → (c : Channel) →
-      PartFits s.samples (gatherer_at c g) (part_at c (parts_of ys))
+      PartFits s.samples (at c g) (at c (parts_of ys))
   fits_all ys small h = parts-fit s.samples g ys small (λ c. omega (arith, same c))
 
   -- a part of the block: k triples, and all that are left behind triple e
@@ -186,7 +187,7 @@ module _ {s : Settings} {ws₀ : Three (List ℕ)} {ms₀ : List ℕ} {block : L
       let last-is : last ≡ walked_with g j ys taken written why = ended.0 ∙ ap (λ (l : List (Three ℤ)). walked_with g j l taken written why) zs-are in
       let end_is : three_with s last.gatherers last.joint ws₁ ms₁ ≡ three_part st (parts_of ys) =
       λ i. three_with s (last-is i).gatherers (last-is i).joint (windows-are i) (marks_are i) in
-      let even : (c : Channel) → (part_at c (parts_of ys)).count ≡ (parts_of ys).a.count = λ c. count_at c ys ∙ sym (count_at on_a ys) in (
+      let even : (c : Channel) → (at c (parts_of ys)).count ≡ (parts_of ys).a.count = λ c. count_at c ys ∙ sym (count_at on_a ys) in (
         (λ i. record { after = end_is i; told = (last-is i).told; bytes = out₁ })
             ∙ (λ i. record { after = three_part st (parts_of ys); told = record { taken = taken_is i; written = none i; why = why }; bytes = out₁ })
             ∙ progress-last inv.so_far (record { after = three_part st (parts_of ys); taken = k; records = []; why = why }) out₁ fed bytes-are,
@@ -202,7 +203,7 @@ module _ {s : Settings} {ws₀ : Three (List ℕ)} {ms₀ : List ℕ} {block : L
     abbrev half : List (Three ℤ)
     half = take n rest
 
-    abbrev p : Parts
+    abbrev p : Three Part
     p = parts_of half
 
     pub share-some : 0 < n
@@ -217,14 +218,14 @@ module _ {s : Settings} {ws₀ : Three (List ℕ)} {ms₀ : List ℕ} {block : L
         let long = between-long (n - 1) (from + n - 1) (omega arith) (omega (arith, inv.share_in)) in
         (omega arith, room_for _ (omega (arith, inv.within.fits)))
 
-    module _ {q : Parts} (are : PartsAre (triples_of (take (3 * (from + n) - 3 * from) (drop (3 * from) block))) q) where
+    module _ {q : Three Part} (are : PartsAre (triples_of (take (3 * (from + n) - 3 * from) (drop (3 * from) block))) q) where
       half_is : triples_of (take (3 * (from + n) - 3 * from) (drop (3 * from) block)) ≡ half
       half_is = triples-between from n (from + n) block refl
 
       q-is : q ≡ p
       q-is = are.0 ∙ ap parts_of half_is
 
-      p-fits : (c : Channel) → PartFits s.samples (gatherer_at c g) (part_at c p)
+      p-fits : (c : Channel) → PartFits s.samples (at c g) (at c p)
       p-fits = fits_all half (subst SquaresFit half_is are.1) (omega (arith, half-long, inv.within.fits))
 
       pub complete-ready : (t : Scaled) → t ≡ scaled_of s → HalfReady s t g j sums ws ms q
@@ -232,7 +233,7 @@ module _ {s : Settings} {ws₀ : Three (List ℕ)} {ms₀ : List ℕ} {block : L
         valid = inv.so_far.valid;
         scaled-is = scaled-is;
         sums-are = inv.sums-are;
-        part-fits = λ c. subst (λ (k : Parts). PartFits s.samples (gatherer_at c g) (part_at c k)) (sym q-is) (p-fits c);
+        part-fits = λ c. subst (λ (k : Three Part). PartFits s.samples (at c g) (at c k)) (sym q-is) (p-fits c);
       }
 
       -- what `complete` gave, on the buffer behind the records written before
@@ -255,7 +256,7 @@ module _ {s : Settings} {ws₀ : Three (List ℕ)} {ms₀ : List ℕ} {block : L
         given = is.outcome-is ∙ (λ i. half_outcome st (q-is i) (lent-behind behind out i)) ∙ ap (λ (k : ℕ). half_by (three_why_not st p k) st p (drop behind out)) room-is
 
         -- it is taken
-        module _ {h : Half} (r-is : r ≡ Taken h) {g₁ : Gatherers} (halves_are : g₁ ≡ with_halves g q) where
+        module _ {h : Half} (r-is : r ≡ Taken h) {g₁ : Three Gatherer} (halves_are : g₁ ≡ with_halves g q) where
           abbrev after : ThreeState
           after = three_with s g₁ h.joint ws₁ ms₁
 
@@ -263,7 +264,7 @@ module _ {s : Settings} {ws₀ : Three (List ℕ)} {ms₀ : List ℕ} {block : L
           took = half-taken (three_why_not st p left) (outcome (Taken h)) st p (drop behind out) (sym (ap outcome r-is) ∙ given) refl
 
           after_is : three_half st p ≡ after
-          after_is = sym (ap (λ (o : HalfOutcome). o.after) took.1) ∙ sym (ap (λ (k : Gatherers). three_with s k h.joint ws₁ ms₁) halves_are)
+          after_is = sym (ap (λ (o : HalfOutcome). o.after) took.1) ∙ sym (ap (λ (k : Three Gatherer). three_with s k h.joint ws₁ ms₁) halves_are)
 
           written_is : length (three_half_due st p) ≡ h.written
           written_is = sym (ap (λ (o : HalfOutcome). o.written) took.1)

@@ -5,10 +5,11 @@ use Rattle.reading.specs.declared.Stop.{Stop}
 use Rattle.reading.specs.Told.{told_in}
 use Rattle.reading.specs.Calls.{Outcome}
 use Rattle.rms.specs.declared.Gatherer.{Gatherer}
-use Rattle.three_reading.specs.Three.{Three, Channel}
+use Rattle.three_reading.specs.declared.Three.{Three}
+use Rattle.three_reading.specs.Three.{at, Channel}
 use Rattle.joint.specs.declared.Joint.{Joint}
 use Rattle.three_state.specs.declared.ThreeState.{ThreeState}
-use Rattle.three_state.specs.ThreeState.{gatherer_at, three_with}
+use Rattle.three_state.specs.ThreeState.{three_with}
 use Rattle.three_state.specs.ThreeStep.{parts_of, with_parts}
 use Rattle.three_feed.specs.declared.ThreeWalked.{ThreeWalked}
 
@@ -21,4 +22,4 @@ walked_with g j xs taken written why = record { gatherers = with_parts g (parts_
 
 -- what the end of a walk needs of the gatherers, for as many triples more
 abbrev pub RoomFor : Three Gatherer → ℕ → Type 0
-RoomFor g n = (c : Channel) → ((gatherer_at c g).count + n ≤ 256) × ((gatherer_at c g).sum ≤ (gatherer_at c g).count * 2 ^ 30)
+RoomFor g n = (c : Channel) → ((at c g).count + n ≤ 256) × ((at c g).sum ≤ (at c g).count * 2 ^ 30)

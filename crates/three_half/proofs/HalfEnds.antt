@@ -13,40 +13,40 @@ use Rattle.rms.specs.declared.Gatherer.{Gatherer}
 use Rattle.rms.specs.Gather.{with_half}
 use Rattle.window.specs.Window.{pushed}
 use Rattle.records.specs.Due.{records_of}
-use Rattle.three_reading.specs.Three.{Three, Channel}
+use Rattle.rms.specs.declared.Part.{Part}
+use Rattle.three_reading.specs.declared.Three.{Three}
+use Rattle.three_reading.specs.Three.{at, Channel}
 use Rattle.three_reading.specs.Three.Channel.{on_a, on_b, on_c}
 use Rattle.joint.specs.declared.Joint.{Joint}
 use Rattle.joint.specs.declared.JointSums.{JointSums}
 use Rattle.joint.specs.declared.JointTried.{JointTried}
 use Rattle.joint.specs.declared.Values.{Values}
 use Rattle.joint.specs.Joint.{sizes_of, Small3, joint_sums_of, joint_tried_by, joint_due_at, pushed_all, JointReady}
-use Rattle.three_state.specs.declared.Gatherers.{Gatherers}
-use Rattle.three_state.specs.declared.Parts.{Parts}
 use Rattle.three_state.specs.declared.ThreeState.{ThreeState}
-use Rattle.three_state.specs.ThreeState.{gatherer_at, windows_in, three_with}
-use Rattle.three_state.specs.ThreeStep.{with_joints, due_on_three, with_gatherers, part_at, with_halves, values_with, values_out}
+use Rattle.three_state.specs.ThreeState.{windows_in, three_with}
+use Rattle.three_state.specs.ThreeStep.{with_joints, due_on_three, with_gatherers, with_halves, values_with, values_out}
 use Rattle.three_state.specs.ThreeStep.{three_passes, three_half_due, three_half, three_why_not}
 use Rattle.three_half.specs.declared.HalfEnd.TheVariants.{Taken, Refused}
 use Rattle.three_half.specs.Halves.{HalfReady, half_by, half_outcome, HalfIs, ValuesReady, values_by}
 use Rattle.three_half.specs.HalvesLaws.{sum-at}
 
-half_at : (c : Channel) (g : Gatherers) (p : Parts) → gatherer_at c (with_halves g p) ≡ with_half (gatherer_at c g) (part_at c p)
+half_at : (c : Channel) (g : Three Gatherer) (p : Three Part) → at c (with_halves g p) ≡ with_half (at c g) (at c p)
 half_at on_a g p = refl
 half_at on_b g p = refl
 half_at on_c g p = refl
 
-module _ {s : Settings} {t : Scaled} {g : Gatherers} {j : Joint} {a : JointSums} {ws : Three (List ℕ)} {ms : List ℕ} {p : Parts}
+module _ {s : Settings} {t : Scaled} {g : Three Gatherer} {j : Joint} {a : JointSums} {ws : Three (List ℕ)} {ms : List ℕ} {p : Three Part}
     (pre : HalfReady s t g j a ws ms p) where
   abbrev st : ThreeState
   st = three_with s g j ws ms
 
   -- for the values, and for the step of them
-  pub values-ready : (halves : Gatherers) → halves ≡ with_halves g p → ValuesReady s g halves ws
+  pub values-ready : (halves : Three Gatherer) → halves ≡ with_halves g p → ValuesReady s g halves ws
   values-ready halves are = record {
     samples-some = omega (arith, pre.valid.settings-valid.samples-valid.0);
     samples-most = pre.valid.settings-valid.samples-valid.1;
     last-le = λ c. (pre.valid.gatherer-valid c).1.1.0;
-    half-le = λ c. omega (arith, sum-at pre c, ap (λ (h : Gatherers). (gatherer_at c h).last) are, ap (λ (h : Gatherer). h.last) (half_at c g p));
+    half-le = λ c. omega (arith, sum-at pre c, ap (λ (h : Three Gatherer). (at c h).last) are, ap (λ (h : Gatherer). h.last) (half_at c g p));
     window-long = λ c. (pre.valid.window-valid c).size;
   }
 
@@ -126,7 +126,7 @@ module _ {s : Settings} {t : Scaled} {g : Gatherers} {j : Joint} {a : JointSums}
           ap (λ (vs : List Values). last_value <ᵇ length vs + j.count) (out-by whole) ∙ lt-ltb last_value (1 + j.count) (omega arith) in
           refused 1 (why-is true _ past refl)
 
-      module _ (more : j.count ≡ last_value → ⊥) (halves : Gatherers) (are : halves ≡ with_halves g p) (x : Values)
+      module _ (more : j.count ≡ last_value → ⊥) (halves : Three Gatherer) (are : halves ≡ with_halves g p) (x : Values)
           (x-is : x ≡ values_by s.samples g halves) where
         out-is : x ∷ [] ≡ values_out st p
         out-is = (λ i. x-is i ∷ []) ∙ (λ i. values_by s.samples g (are i) ∷ []) ∙ sym (out-by whole)

@@ -11,15 +11,16 @@ use Rattle.reading.specs.Engineer.{over, room}
 use Rattle.rms.specs.declared.Gatherer.{Gatherer}
 use Rattle.rms.specs.declared.Part.{Part}
 use Rattle.rms.specs.Gather.{PartFits}
-use Rattle.three_reading.specs.Three.{Three, any_of, Channel}
+use Rattle.three_reading.specs.declared.Three.{Three}
+use Rattle.three_reading.specs.Three.{at, any_of, Channel}
 use Rattle.three_reading.specs.Three.Channel.{on_a, on_b, on_c}
 use Rattle.joint.specs.declared.Joint.{Joint}
 use Rattle.joint.specs.declared.JointSums.{JointSums}
 use Rattle.joint.specs.declared.Values.{Values}
 use Rattle.joint.specs.Joint.{three_of, joint_sums_of}
 use Rattle.three_state.specs.declared.ThreeState.{ThreeState}
-use Rattle.three_state.specs.ThreeState.{gatherer_at, windows_in, three_with, ValidThree}
-use Rattle.three_state.specs.ThreeStep.{part_at, with_halves, three_half_due, three_half, three_why_not}
+use Rattle.three_state.specs.ThreeState.{windows_in, three_with, ValidThree}
+use Rattle.three_state.specs.ThreeStep.{with_halves, three_half_due, three_half, three_why_not}
 use Rattle.three_half.specs.declared.Half.{Half}
 
 -- a logger, and a part of each channel that fits the half-cycle in progress, and is taken as its end
@@ -27,7 +28,7 @@ pub record HalfReady (s : Settings) (t : Scaled) (g : Three Gatherer) (j : Joint
   pub valid : ValidThree (three_with s g j ws ms)
   pub scaled-is : t ≡ scaled_of s
   pub sums-are : a ≡ joint_sums_of ws ms
-  pub part-fits : (c : Channel) → PartFits s.samples (gatherer_at c g) (part_at c p)
+  pub part-fits : (c : Channel) → PartFits s.samples (at c g) (at c p)
 
 -- the end of a half-cycle: the state after it, the sums of its windows, the records written, why it was not taken, and the record buffer
 pub record HalfOutcome : Type 0 where
@@ -59,14 +60,14 @@ half_of s g j sums p (Err stop) ws ms out = record { after = three_with s g j ws
 
 -- a part more leaves a sum within 64 bits
 abbrev pub SumsFit : Three Gatherer → Three Part → Type 0
-SumsFit g p = (c : Channel) → (gatherer_at c g).sum + (part_at c p).squares < 2 ^ 64
+SumsFit g p = (c : Channel) → (at c g).sum + (at c p).squares < 2 ^ 64
 
 -- the values that end with the half-cycles of h, where those of g were before: as the code has them
 abbrev pub size_at : ℕ → Three Gatherer → Three Gatherer → Channel → ℕ
-size_at m g h c = rms m (gatherer_at c g).last (gatherer_at c h).last
+size_at m g h c = rms m (at c g).last (at c h).last
 
 abbrev pub clipped_at : Three Gatherer → Three Gatherer → Channel → Bool
-clipped_at g h c = (gatherer_at c g).last_clipped || (gatherer_at c h).last_clipped
+clipped_at g h c = (at c g).last_clipped || (at c h).last_clipped
 
 abbrev pub values_by : ℕ → Three Gatherer → Three Gatherer → Values
 values_by m g h = record {
@@ -80,5 +81,5 @@ values_by m g h = record {
 pub record ValuesReady (s : Settings) (g h : Three Gatherer) : Type 0 where
   pub samples-some : 0 < s.samples
   pub samples-most : s.samples ≤ 256
-  pub last-le : (c : Channel) → (gatherer_at c g).last ≤ s.samples * 2 ^ 30
-  pub half-le : (c : Channel) → (gatherer_at c h).last ≤ s.samples * 2 ^ 30
+  pub last-le : (c : Channel) → (at c g).last ≤ s.samples * 2 ^ 30
+  pub half-le : (c : Channel) → (at c h).last ≤ s.samples * 2 ^ 30

@@ -4,7 +4,8 @@ use Rattle.std.proofs.Common.{sym, ◌∙◌, ap, arith}
 use Rattle.std.proofs.lemmas.List.{map-append, length-map}
 use Rattle.numbers.specs.Notation.{flag}
 use Rattle.numbers.specs.NotationLaws.{and_left, and_right}
-use Rattle.three_reading.specs.Three.{Three, each, any_of, all_of, Channel, at, channel, channels}
+use Rattle.three_reading.specs.declared.Three.{Three}
+use Rattle.three_reading.specs.Three.{each, any_of, all_of, Channel, at, channel, channels}
 use Rattle.three_reading.specs.Three.Channel.{on_a, on_b, on_c}
 
 pub at_each : {X Y : Type 0} (c : Channel) (f : X → Y) (t : Three X) → at c (each f t) ≡ f (at c t)

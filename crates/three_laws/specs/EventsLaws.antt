@@ -13,7 +13,8 @@ use Rattle.reading.specs.Clipping.{record_of}
 use Rattle.reading.specs.Thresholds.{begins, ends}
 use Rattle.reading.specs.Changes.{Signal}
 use Rattle.reading.specs.Changes.Signal.{filling, unsettled, steady, changing}
-use Rattle.three_reading.specs.Three.{Three, each, Channel, at, joint_history, joint_marks}
+use Rattle.three_reading.specs.declared.Three.{Three}
+use Rattle.three_reading.specs.Three.{each, Channel, at, joint_history, joint_marks}
 use Rattle.three_reading.specs.JointEvents.{joint_begins, joint_ends, joint_since, joint_threshold_due}
 use Rattle.three_reading.specs.JointChanges.{joint_first_stand, joint_stood_before, joint_change_event, joint_change_over, joint_change_due, signals}
 use Rattle.three_reading.specs.JointRecords.{joint_due, joint_records_at}

@@ -8,7 +8,7 @@ use Rattle.settings.specs.Settings.{window_length_of}
 use Rattle.numbers.specs.Notation.{◌<ᵇ◌}
 use Rattle.reading.specs.Changes.{Signal}
 use Rattle.reading.specs.Changes.Signal.{filling, unsettled, steady, changing}
-use Rattle.three_reading.specs.Three.{Three}
+use Rattle.three_reading.specs.declared.Three.{Three}
 use Rattle.three_reading.specs.JointChanges.{is_true, joint_next, signals}
 use Rattle.three_laws.specs.ThreeSentences.{joint_true, JointNever, JointTurned, JointSays}
 use Rattle.three_laws.specs.ChannelLaws.{never}

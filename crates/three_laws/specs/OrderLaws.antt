@@ -13,7 +13,8 @@ use Rattle.reading.specs.Clipping.{value_clipped, record_of}
 use Rattle.reading.specs.Thresholds.{begins, ends, magnitude, kind_number}
 use Rattle.reading.specs.Changes.{window_sum, gap, Signal, signal, sum_before, greatest_difference}
 use Rattle.reading.specs.Changes.Signal.{filling, unsettled, steady, changing}
-use Rattle.three_reading.specs.Three.{Three, each, any_of, all_of, Channel, at, channel, channels, joint_count, joint_history, joint_marks}
+use Rattle.three_reading.specs.declared.Three.{Three}
+use Rattle.three_reading.specs.Three.{each, any_of, all_of, Channel, at, channel, channels, joint_count, joint_history, joint_marks}
 use Rattle.three_reading.specs.Three.Channel.{on_a, on_b, on_c}
 use Rattle.three_reading.specs.JointEvents.{joint_begins, joint_ends, joint_since, worst, joint_threshold_due}
 use Rattle.three_reading.specs.JointChanges.{is_true, joint_next, signals, joint_first_stand, joint_dip_or_swell, joint_stood_before, greatest_of, joint_change_event, joint_change_over, joint_change_due}

@@ -7,7 +7,8 @@ use Rattle.reading.specs.Values.{value, value_count, history}
 use Rattle.reading.specs.Clipping.{value_clipped, record_of}
 use Rattle.reading_laws.specs.RecordingsLaws.{value_count-grow, value-grow, value_clipped-grow}
 use Rattle.reading_laws.specs.MarksLaws.{marks_by}
-use Rattle.three_reading.specs.Three.{Three, each, any_of, Channel, at, channel, channels, joint_count, joint_value, joint_history, joint_clipped, joint_marks}
+use Rattle.three_reading.specs.declared.Three.{Three}
+use Rattle.three_reading.specs.Three.{each, any_of, Channel, at, channel, channels, joint_count, joint_value, joint_history, joint_clipped, joint_marks}
 use Rattle.three_reading.specs.Three.Channel.{on_a}
 use Rattle.three_reading.specs.JointRecords.{joint_due, joint_records_at}
 use Rattle.three_laws.specs.ChannelLaws.{three-same, at-each-channel, length-channel, channel-append}

@@ -12,7 +12,8 @@ use Rattle.reading.specs.Changes.Signal.{filling, unsettled, steady, changing}
 use Rattle.reading.specs.Image.{phase_number}
 use Rattle.reading_laws.specs.Sentences.{truth}
 use Rattle.reading_laws.specs.SignalLaws.{false-before-N}
-use Rattle.three_reading.specs.Three.{Three, each, all_of, Channel, at, channel, channels}
+use Rattle.three_reading.specs.declared.Three.{Three}
+use Rattle.three_reading.specs.Three.{each, all_of, Channel, at, channel, channels}
 use Rattle.three_reading.specs.Three.Channel.{on_a, on_b, on_c}
 use Rattle.three_reading.specs.JointChanges.{is_true, joint_next, signals}
 use Rattle.three_laws.specs.ChannelLaws.{never, three-same, at_each, at-each-channel, length-channel, all-at, not-all-at}

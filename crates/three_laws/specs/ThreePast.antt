@@ -6,7 +6,8 @@ use Rattle.settings.specs.declared.Settings.{Settings}
 use Rattle.reading.specs.declared.Record.{Record}
 use Rattle.reading_laws.specs.Past.{Past, Grows}
 use Rattle.reading_laws.specs.PastLaws.{events-back, grows-by-value}
-use Rattle.three_reading.specs.Three.{Three, joint_count, joint_history, joint_marks}
+use Rattle.three_reading.specs.declared.Three.{Three}
+use Rattle.three_reading.specs.Three.{joint_count, joint_history, joint_marks}
 use Rattle.three_reading.specs.JointRecords.{joint_due, joint_events, joint_records_at}
 use Rattle.three_reading.specs.ThreeFeed.{joint_due_after}
 use Rattle.three_laws.specs.RecordingsLaws.{joint_count-grow, joint_records_at-grow}

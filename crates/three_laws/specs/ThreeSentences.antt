@@ -10,7 +10,8 @@ use Rattle.reading.specs.Changes.{Signal, signal}
 use Rattle.reading.specs.Changes.Signal.{filling, unsettled, steady, changing}
 use Rattle.reading.specs.Feed.{last_value, records}
 use Rattle.reading_laws.specs.Sentences.{ClippedFrom}
-use Rattle.three_reading.specs.Three.{Three, each, all_of, Channel, at, channel, channels, joint_count, joint_values, joint_clipped, joint_marks}
+use Rattle.three_reading.specs.declared.Three.{Three}
+use Rattle.three_reading.specs.Three.{each, all_of, Channel, at, channel, channels, joint_count, joint_values, joint_clipped, joint_marks}
 use Rattle.three_reading.specs.JointChanges.{is_true, signals}
 use Rattle.three_reading.specs.JointRecords.{joint_events, joint_records_at}
 use Rattle.three_reading.specs.ThreeFeed.{joint_records, joint_completed, joint_allowed, joint_taken}

@@ -6,7 +6,8 @@ use Rattle.reading.specs.Changes.{Signal}
 use Rattle.reading_laws.specs.CompletedLaws.{records-completed}
 use Rattle.reading_laws.specs.MarksLaws.{marked-clipped, clipped-marked}
 use Rattle.reading_laws.specs.TakenLaws.{taken-le, taken-allowed, taken-greatest}
-use Rattle.three_reading.specs.Three.{Three, each, all_of, joint_count, joint_clipped, joint_marks}
+use Rattle.three_reading.specs.declared.Three.{Three}
+use Rattle.three_reading.specs.Three.{each, all_of, joint_count, joint_clipped, joint_marks}
 use Rattle.three_reading.specs.JointChanges.{is_true}
 use Rattle.three_laws.specs.ThreeSentences.{ThreeSentences}
 use Rattle.three_laws.specs.RecordingsLaws.{count-channel, joint_marks-by}

@@ -3,7 +3,8 @@ use Rattle.std.specs.Prelude.{◌≡◌, refl, List, [], ◌∷◌, ◌++◌, �
 use Rattle.std.proofs.Common.{◌∙◌, ap, arith}
 use Rattle.reading.specs.Values.{Sample, Samples}
 use Rattle.reading_laws.specs.RecordingsLaws.{samples-append, samples-take}
-use Rattle.three_reading.specs.Three.{Three, triples_of, Channel, at, channel}
+use Rattle.three_reading.specs.declared.Three.{Three}
+use Rattle.three_reading.specs.Three.{triples_of, Channel, at, channel}
 use Rattle.three_reading.specs.Three.Channel.{on_a, on_b, on_c}
 use Rattle.three_laws.specs.ChannelLaws.{channel-append, channel-take}
 

@@ -9,7 +9,8 @@ use Rattle.reading.specs.Values.{up_to}
 use Rattle.reading.specs.Thresholds.{greatest}
 use Rattle.reading.specs.Changes.{window_sum, gap, Signal, next, sum_before, greatest_difference}
 use Rattle.reading.specs.Changes.Signal.{filling, unsettled, steady, changing}
-use Rattle.three_reading.specs.Three.{Three, each, all_of, Channel, at, channel, channels}
+use Rattle.three_reading.specs.declared.Three.{Three}
+use Rattle.three_reading.specs.Three.{each, all_of, Channel, at, channel, channels}
 use Rattle.three_reading.specs.Three.Channel.{on_a, on_b, on_c}
 use Rattle.three_reading.specs.JointEvents.{joint_since}
 

@@ -7,7 +7,8 @@ use Rattle.reading.specs.declared.Kind.TheVariants.{Dip, Swell, Interruption}
 use Rattle.reading.specs.declared.Event.{Event}
 use Rattle.reading.specs.Values.{since}
 use Rattle.reading.specs.Thresholds.{begins, ends, magnitude, kind_number}
-use Rattle.three_reading.specs.Three.{Three, each, any_of, all_of}
+use Rattle.three_reading.specs.declared.Three.{Three}
+use Rattle.three_reading.specs.Three.{each, any_of, all_of}
 
 -- by a test of each channel: a dip or a swell begins with any and ends with all, an interruption begins with all and ends with any
 abbrev pub begins_of : Kind → Three Bool → Bool

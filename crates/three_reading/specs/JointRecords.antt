@@ -5,7 +5,8 @@ use Rattle.reading.specs.declared.Kind.TheVariants.{Dip, Swell, Interruption}
 use Rattle.reading.specs.declared.Event.{Event}
 use Rattle.reading.specs.declared.Record.{Record}
 use Rattle.reading.specs.Clipping.{record_of}
-use Rattle.three_reading.specs.Three.{Three, joint_history, joint_marks}
+use Rattle.three_reading.specs.declared.Three.{Three}
+use Rattle.three_reading.specs.Three.{joint_history, joint_marks}
 use Rattle.three_reading.specs.JointEvents.{joint_threshold_due}
 use Rattle.three_reading.specs.JointChanges.{joint_change_due}
 

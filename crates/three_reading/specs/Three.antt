@@ -4,12 +4,7 @@ use Rattle.settings.specs.declared.Settings.{Settings}
 use Rattle.numbers.specs.Notation.{flag}
 use Rattle.reading.specs.Values.{value, value_count}
 use Rattle.reading.specs.Clipping.{value_clipped}
-
--- one of each channel
-pub record Three (X : Type 0) : Type 0 where
-  pub a : X
-  pub b : X
-  pub c : X
+use Rattle.three_reading.specs.declared.Three.{Three}
 
 abbrev pub each : {X Y : Type 0} → (X → Y) → Three X → Three Y
 each f t = record { a = f t.a; b = f t.b; c = f t.c }

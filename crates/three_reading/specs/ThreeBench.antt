@@ -7,7 +7,8 @@ use Rattle.reading.specs.declared.Record.{Record}
 use Rattle.reading.specs.Bench.{q, q_loud, repeated, values_of, with_first, loud_dip}
 use Rattle.reading.specs.Changes.Signal.{unsettled, steady, changing}
 use Rattle.reading.specs.Records.{record_bytes}
-use Rattle.three_reading.specs.Three.{Three, joint_values}
+use Rattle.three_reading.specs.declared.Three.{Three}
+use Rattle.three_reading.specs.Three.{joint_values}
 use Rattle.three_reading.specs.JointEvents.{joint_since}
 use Rattle.three_reading.specs.JointChanges.{signals}
 use Rattle.three_reading.specs.JointRecords.{joint_due, joint_events}

@@ -13,7 +13,8 @@ use Rattle.reading.specs.Image.{phase_number}
 use Rattle.reading.specs.Engineer.{over, room}
 use Rattle.three_reading.specs.declared.ChannelReadings.{ChannelReadings}
 use Rattle.three_reading.specs.declared.ThreeReadings.{ThreeReadings}
-use Rattle.three_reading.specs.Three.{Three, triples_of, channel, joint_values}
+use Rattle.three_reading.specs.declared.Three.{Three}
+use Rattle.three_reading.specs.Three.{triples_of, channel, joint_values}
 use Rattle.three_reading.specs.Three.Channel.{on_a, on_b, on_c}
 use Rattle.three_reading.specs.JointEvents.{joint_since}
 use Rattle.three_reading.specs.JointChanges.{signals}

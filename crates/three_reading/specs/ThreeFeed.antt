@@ -4,7 +4,8 @@ use Rattle.settings.specs.declared.Settings.{Settings}
 use Rattle.numbers.specs.Notation.{◌≤ᵇ◌, ◌≡ᵇ◌}
 use Rattle.reading.specs.declared.Record.{Record}
 use Rattle.reading.specs.Feed.{last_value, greatest_to}
-use Rattle.three_reading.specs.Three.{Three, joint_count}
+use Rattle.three_reading.specs.declared.Three.{Three}
+use Rattle.three_reading.specs.Three.{joint_count}
 use Rattle.three_reading.specs.JointRecords.{joint_records_at}
 
 -- the records due at the c values after value v

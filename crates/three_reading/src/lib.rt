@@ -3,6 +3,14 @@
 
 ghost use Rattle.three_reading.specs.ThreeBench.{ThreeBenchReadings};
 
+// One of each channel.
+#[derive(Clone, Copy)]
+pub struct Three<T> {
+    pub a: T,
+    pub b: T,
+    pub c: T,
+}
+
 // What look tells of one channel: the count of values, the newest one and the sum of the window, 0 where there is none.
 #[derive(Clone, Copy)]
 pub struct ChannelReadings {

@@ -4,7 +4,7 @@ use Rattle.reading.specs.Feed.{last_value}
 use Rattle.reading.specs.Engineer.{room}
 use Rattle.greedy.proofs.CutterLaws.{sample-due, sample-within}
 use Rattle.greedy.proofs.ToldLaws.{ToldWithin, takes_one, told-within}
-use Rattle.three_reading.specs.Three.{Three}
+use Rattle.three_reading.specs.declared.Three.{Three}
 use Rattle.three_state.specs.declared.ThreeState.{ThreeState}
 use Rattle.three_state.specs.ThreeStep.{parts_of, three_cutter, three_machine}
 use Rattle.three_state.specs.ThreeStepValid.{three_half_due-most, three-within-end}

@@ -32,7 +32,9 @@ use Rattle.greedy.specs.Cutter.{ends_half}
 use Rattle.greedy.proofs.GreedyFollows.{StepsFollow}
 use Rattle.state.specs.State.{phase_number_of, readings_of}
 use Rattle.state.proofs.StepFollows.{halves-none, readings-of}
-use Rattle.three_reading.specs.Three.{Three, any_of, Channel, at, channel, joint_count, joint_value, joint_history, joint_values, joint_marks}
+use Rattle.rms.specs.declared.Part.{Part}
+use Rattle.three_reading.specs.declared.Three.{Three}
+use Rattle.three_reading.specs.Three.{any_of, Channel, at, channel, joint_count, joint_value, joint_history, joint_values, joint_marks}
 use Rattle.three_reading.specs.Three.Channel.{on_a, on_b, on_c}
 use Rattle.three_reading.specs.JointEvents.{joint_since}
 use Rattle.three_reading.specs.JointChanges.{signals}
@@ -45,14 +47,12 @@ use Rattle.three_laws.specs.ThreePast.{three_past}
 use Rattle.joint.specs.declared.Values.{Values}
 use Rattle.joint.specs.Joint.{three_of, sizes_of, no_values, joint_stand}
 use Rattle.joint.specs.JointFollows.{joint-follows, joint-due-follows}
-use Rattle.three_state.specs.declared.Gatherers.{Gatherers}
-use Rattle.three_state.specs.declared.Parts.{Parts}
 use Rattle.three_state.specs.ThreeState.{three_with, three_fresh, gatherers_of, three_on, three_state_of, channel_readings_of, three_readings_of}
 use Rattle.three_state.specs.ThreeStep.{with_joint, with_joints, due_on_three, with_gatherers, parts_of, with_parts, with_halves, jointly, values_with}
 use Rattle.three_state.specs.ThreeStep.{three_passes, three_half_due, three_half, three_part, three_cutter, three_machine}
 
 -- a value of each channel more
-module _ (s : Settings) (g : Gatherers) (hist : List (Three ℕ)) (ms : List ℕ) (beside : length ms ≡ length hist) (x : Values) where
+module _ (s : Settings) (g : Three Gatherer) (hist : List (Three ℕ)) (ms : List ℕ) (beside : length ms ≡ length hist) (x : Values) where
   abbrev marked : List ℕ
   marked = flag x.clipped ∷ ms
 
@@ -96,10 +96,10 @@ module _ (s : Settings) (some : 0 < s.samples) (rec : List (Three ℤ)) (x : Thr
   abbrev w : ℕ
   w = joint_count s longer
 
-  abbrev g : Gatherers
+  abbrev g : Three Gatherer
   g = gatherers_of s rec
 
-  abbrev p : Parts
+  abbrev p : Three Part
   p = parts_of (x ∷ [])
 
   abbrev ends : Bool

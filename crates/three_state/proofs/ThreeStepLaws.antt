@@ -9,30 +9,30 @@ use Rattle.rms.specs.Gather.{part_of, with_part, with_half, value_with}
 use Rattle.rms.specs.CutLaws.{cut-none, next-below, cut-cons, cut-within}
 use Rattle.rms.specs.GatherLaws.{none-joins, part-adds, half-adds, value-with}
 use Rattle.greedy.proofs.CutterLaws.{Cuts}
-use Rattle.three_reading.specs.Three.{Three, Channel, at, channel}
+use Rattle.three_reading.specs.declared.Three.{Three}
+use Rattle.three_reading.specs.Three.{Channel, at, channel}
 use Rattle.three_reading.specs.Three.Channel.{on_a, on_b, on_c}
 use Rattle.three_laws.specs.ChannelLaws.{length-channel}
 use Rattle.joint.specs.declared.Values.{Values}
 use Rattle.joint.specs.Joint.{joint_due_at}
-use Rattle.three_state.specs.declared.Gatherers.{Gatherers}
 use Rattle.three_state.specs.declared.ThreeState.{ThreeState}
-use Rattle.three_state.specs.ThreeState.{gatherer_at, windows_in}
+use Rattle.three_state.specs.ThreeState.{windows_in}
 use Rattle.three_state.specs.ThreeStep.{with_joint, with_joints, due_on_three, with_gatherers, parts_of, with_parts, with_halves, jointly, values_with, values_out}
 use Rattle.three_state.specs.ThreeStep.{three_passes, three_half_due, three_half, three_part, three_cutter}
 
 -- the values' steps do not look at the gatherers
-with_joints-gatherers : (xs : List Values) (st : ThreeState) (g : Gatherers) → with_joints xs (with_gatherers st g) ≡ with_gatherers (with_joints xs st) g
+with_joints-gatherers : (xs : List Values) (st : ThreeState) (g : Three Gatherer) → with_joints xs (with_gatherers st g) ≡ with_gatherers (with_joints xs st) g
 with_joints-gatherers [] st g = refl
 with_joints-gatherers (x ∷ xs) st g = ap (with_joint x) (with_joints-gatherers xs st g)
 
-due_on_three-gatherers : (xs : List Values) (st : ThreeState) (g : Gatherers) → due_on_three xs (with_gatherers st g) ≡ due_on_three xs st
+due_on_three-gatherers : (xs : List Values) (st : ThreeState) (g : Three Gatherer) → due_on_three xs (with_gatherers st g) ≡ due_on_three xs st
 due_on_three-gatherers [] st g = refl
 due_on_three-gatherers (x ∷ xs) st g = λ i.
     let before : ThreeState = with_joints-gatherers xs st g i in
     due_on_three-gatherers xs st g i ++ joint_due_at st.settings x before.joint (windows_in before) before.marks
 
 -- no triple joins nothing
-none-join : (g : Gatherers) → with_parts g (parts_of []) ≡ g
+none-join : (g : Three Gatherer) → with_parts g (parts_of []) ≡ g
 none-join g = λ i. record { a = none-joins g.a i; b = none-joins g.b i; c = none-joins g.c i }
 
 -- a part after a triple
@@ -42,7 +42,7 @@ module _ (st : ThreeState) (x : Three ℤ) (xs : List (Three ℤ)) where
 
   -- of any channel, and so of the three
   abbrev own : Channel → Gatherer
-  own c = gatherer_at c st.gatherers
+  own c = at c st.gatherers
 
   abbrev own_next : Channel → Gatherer
   own_next c = with_part (own c) (part_of (at c x ∷ []))

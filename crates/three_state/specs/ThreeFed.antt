@@ -2,7 +2,7 @@
 use Rattle.std.specs.Prelude.{List, ℕ, ℤ}
 use Rattle.reading.specs.Calls.{Outcome}
 use Rattle.greedy.specs.Greedy.{fed_into}
-use Rattle.three_reading.specs.Three.{Three}
+use Rattle.three_reading.specs.declared.Three.{Three}
 use Rattle.three_state.specs.declared.ThreeState.{ThreeState}
 use Rattle.three_state.specs.ThreeStep.{three_machine}
 

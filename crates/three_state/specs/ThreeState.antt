@@ -13,38 +13,33 @@ use Rattle.window.specs.Window.{window_of, ValidWindow}
 use Rattle.state.specs.State.{phase_number_of}
 use Rattle.three_reading.specs.declared.ChannelReadings.{ChannelReadings}
 use Rattle.three_reading.specs.declared.ThreeReadings.{ThreeReadings}
-use Rattle.three_reading.specs.Three.{Three, Channel, at, channel, joint_count, joint_marks, joint_values}
+use Rattle.three_reading.specs.declared.Three.{Three}
+use Rattle.three_reading.specs.Three.{Channel, at, channel, joint_count, joint_marks, joint_values}
 use Rattle.three_reading.specs.Three.Channel.{on_a, on_b, on_c}
 use Rattle.joint.specs.declared.Joint.{Joint}
 use Rattle.joint.specs.Joint.{three_of, joint_of, no_values, windows_of, ValidJoint}
-use Rattle.three_state.specs.declared.Gatherers.{Gatherers}
 use Rattle.three_state.specs.declared.ThreeState.{ThreeState}
 
--- the gatherer of a channel, and the channels' windows
-abbrev pub gatherer_at : Channel → Gatherers → Gatherer
-gatherer_at on_a g = g.a
-gatherer_at on_b g = g.b
-gatherer_at on_c g = g.c
-
+-- the channels' windows
 abbrev pub windows_in : ThreeState → Three (List ℕ)
 windows_in st = three_of st.a st.b st.c
 
 -- a state in its parts
-abbrev pub three_with : Settings → Gatherers → Joint → Three (List ℕ) → List ℕ → ThreeState
+abbrev pub three_with : Settings → Three Gatherer → Joint → Three (List ℕ) → List ℕ → ThreeState
 three_with s g j ws ms = record { settings = s; gatherers = g; joint = j; a = ws.a; b = ws.b; c = ws.c; marks = ms }
 
 -- a fresh logger: it has taken no triple
-abbrev pub no_samples : Gatherers
+abbrev pub no_samples : Three Gatherer
 no_samples = record { a = no_sample; b = no_sample; c = no_sample }
 
 unfoldable pub three_fresh : Settings → ThreeState
 three_fresh s = let none : List ℕ = replicate places 0 in three_with s no_samples no_values (three_of none none none) none
 
 -- the state that a history and its marks leave, whatever the gatherers; and the one that three recordings leave
-abbrev pub gatherers_of : Settings → List (Three ℤ) → Gatherers
+abbrev pub gatherers_of : Settings → List (Three ℤ) → Three Gatherer
 gatherers_of s rec = record { a = gatherer_of s (channel on_a rec); b = gatherer_of s (channel on_b rec); c = gatherer_of s (channel on_c rec) }
 
-abbrev pub three_on : Settings → Gatherers → List (Three ℕ) → List ℕ → ThreeState
+abbrev pub three_on : Settings → Three Gatherer → List (Three ℕ) → List ℕ → ThreeState
 three_on s g hist ms = three_with s g (joint_of s hist ms) (windows_of (window_length_of s) hist) (window_of (window_length_of s) ms)
 
 abbrev pub three_state_of : Settings → List (Three ℤ) → ThreeState
@@ -73,10 +68,10 @@ three_readings_of st = record {
 -- the invariant of a three-phase logger: of each channel what holds of one; the channels are cut at one place
 pub record ValidThree (st : ThreeState) : Type 0 where
   pub settings-valid : ValidSettings st.settings
-  pub gatherer-valid : (c : Channel) → ValidGatherer st.settings.samples (gatherer_at c st.gatherers)
+  pub gatherer-valid : (c : Channel) → ValidGatherer st.settings.samples (at c st.gatherers)
   pub joint-valid : ValidJoint (window_length_of st.settings) st.joint
   pub window-valid : (c : Channel) → ValidWindow value_most (window_length_of st.settings) st.joint.count (at c (windows_in st))
   pub marks-valid : ValidWindow 1 (window_length_of st.settings) st.joint.count st.marks
   pub count-le : st.joint.count ≤ last_value
-  pub same_count : (c : Channel) → (gatherer_at c st.gatherers).count ≡ st.gatherers.a.count
-  pub same_whole : (c : Channel) → (gatherer_at c st.gatherers).whole ≡ st.gatherers.a.whole
+  pub same_count : (c : Channel) → (at c st.gatherers).count ≡ st.gatherers.a.count
+  pub same_whole : (c : Channel) → (at c st.gatherers).whole ≡ st.gatherers.a.whole

@@ -10,14 +10,14 @@ use Rattle.rms.specs.Gather.{part_of, with_part, with_half, cut, value_with}
 use Rattle.window.specs.Window.{pushed}
 use Rattle.greedy.specs.Greedy.{Machine}
 use Rattle.greedy.specs.Cutter.{Cutter, machine_of, why_not_by}
-use Rattle.three_reading.specs.Three.{Three, any_of, Channel, channel}
+use Rattle.rms.specs.declared.Gatherer.{Gatherer}
+use Rattle.three_reading.specs.declared.Three.{Three}
+use Rattle.three_reading.specs.Three.{at, any_of, Channel, channel}
 use Rattle.three_reading.specs.Three.Channel.{on_a, on_b, on_c}
 use Rattle.joint.specs.declared.Values.{Values}
 use Rattle.joint.specs.Joint.{three_of, sizes_of, joint_after, joint_due_at, pushed_all}
-use Rattle.three_state.specs.declared.Gatherers.{Gatherers}
-use Rattle.three_state.specs.declared.Parts.{Parts}
 use Rattle.three_state.specs.declared.ThreeState.{ThreeState}
-use Rattle.three_state.specs.ThreeState.{gatherer_at, windows_in, three_with}
+use Rattle.three_state.specs.ThreeState.{windows_in, three_with}
 
 -- one value of each channel more; such values, newest first; the records due at them
 abbrev pub with_joint : Values → ThreeState → ThreeState
@@ -39,23 +39,18 @@ due_on_three (x ∷ xs) st =
     due_on_three xs st ++ joint_due_at st.settings x before.joint (windows_in before) before.marks
 
 -- other gatherers
-abbrev pub with_gatherers : ThreeState → Gatherers → ThreeState
+abbrev pub with_gatherers : ThreeState → Three Gatherer → ThreeState
 with_gatherers st g = three_with st.settings g st.joint (windows_in st) st.marks
 
--- the part of each channel that triples are, and that of one channel
-abbrev pub parts_of : List (Three ℤ) → Parts
+-- the part of each channel that triples are
+abbrev pub parts_of : List (Three ℤ) → Three Part
 parts_of xs = record { a = part_of (channel on_a xs); b = part_of (channel on_b xs); c = part_of (channel on_c xs) }
 
-abbrev pub part_at : Channel → Parts → Part
-part_at on_a p = p.a
-part_at on_b p = p.b
-part_at on_c p = p.c
-
 -- the gatherers with parts that leave the half-cycle in progress, and with parts that end it
-abbrev pub with_parts : Gatherers → Parts → Gatherers
+abbrev pub with_parts : Three Gatherer → Three Part → Three Gatherer
 with_parts g p = record { a = with_part g.a p.a; b = with_part g.b p.b; c = with_part g.c p.c }
 
-abbrev pub with_halves : Gatherers → Parts → Gatherers
+abbrev pub with_halves : Three Gatherer → Three Part → Three Gatherer
 with_halves g p = record { a = with_half g.a p.a; b = with_half g.b p.b; c = with_half g.c p.c }
 
 -- one value of each channel, as the three that are told: clipped if any of them is
@@ -68,27 +63,27 @@ jointly x = record {
 }
 
 -- parts that end it: the values that come out, if the half-cycle before was whole
-abbrev pub values_with : ℕ → Gatherers → Parts → Values
-values_with m g p = jointly (λ c. value_with m (gatherer_at c g) (part_at c p))
+abbrev pub values_with : ℕ → Three Gatherer → Three Part → Values
+values_with m g p = jointly (λ c. value_with m (at c g) (at c p))
 
-abbrev pub values_out : ThreeState → Parts → List Values
+abbrev pub values_out : ThreeState → Three Part → List Values
 values_out st p = if st.gatherers.a.whole then values_with st.settings.samples st.gatherers p ∷ [] else []
 
 -- whether that passes V's end; the records due; the state after it
-unfoldable pub three_passes : ThreeState → Parts → Bool
+unfoldable pub three_passes : ThreeState → Three Part → Bool
 three_passes st p = last_value <ᵇ length (values_out st p) + st.joint.count
 
-unfoldable pub three_half_due : ThreeState → Parts → List Record
+unfoldable pub three_half_due : ThreeState → Three Part → List Record
 three_half_due st p = due_on_three (values_out st p) st
 
-unfoldable pub three_half : ThreeState → Parts → ThreeState
+unfoldable pub three_half : ThreeState → Three Part → ThreeState
 three_half st p = with_joints (values_out st p) (with_gatherers st (with_halves st.gatherers p))
 
-abbrev pub three_part : ThreeState → Parts → ThreeState
+abbrev pub three_part : ThreeState → Three Part → ThreeState
 three_part st p = with_gatherers st (with_parts st.gatherers p)
 
 -- why such parts are not taken: 2 past V's end, 1 no room for their records; 0 where they are
-abbrev pub three_why_not : ThreeState → Parts → ℕ → ℕ
+abbrev pub three_why_not : ThreeState → Three Part → ℕ → ℕ
 three_why_not st p room = why_not_by (three_passes st p) (three_half_due st p) room
 
 -- by half-cycles, all cut where channel a is; and so triple by triple

@@ -16,16 +16,17 @@ use Rattle.rms.specs.GatherFollows.{no_sample-is, gatherer_of-valid}
 use Rattle.window.specs.Window.{pushed, ValidWindow}
 use Rattle.window.specs.WindowValid.{pushed-valid, window_of-valid}
 use Rattle.window.specs.WindowFollows.{window_of-none}
-use Rattle.three_reading.specs.Three.{Three, Channel, at}
+use Rattle.rms.specs.declared.Part.{Part}
+use Rattle.three_reading.specs.declared.Three.{Three}
+use Rattle.three_reading.specs.declared.Three.{Three}
+use Rattle.three_reading.specs.Three.{Channel, at}
 use Rattle.three_reading.specs.Three.Channel.{on_a, on_b, on_c}
 use Rattle.joint.specs.declared.Values.{Values}
 use Rattle.joint.specs.Joint.{three_of, sizes_of, Small3, joint_after, pushed_all}
 use Rattle.joint.specs.JointValid.{joint_due_at-most, joint_after-valid, no_values-valid}
-use Rattle.three_state.specs.declared.Gatherers.{Gatherers}
-use Rattle.three_state.specs.declared.Parts.{Parts}
 use Rattle.three_state.specs.declared.ThreeState.{ThreeState}
-use Rattle.three_state.specs.ThreeState.{gatherer_at, windows_in, no_samples, three_fresh, ValidThree}
-use Rattle.three_state.specs.ThreeStep.{with_joint, with_joints, due_on_three, with_gatherers, part_at, with_parts, with_halves, values_with, values_out}
+use Rattle.three_state.specs.ThreeState.{windows_in, no_samples, three_fresh, ValidThree}
+use Rattle.three_state.specs.ThreeStep.{with_joint, with_joints, due_on_three, with_gatherers, with_parts, with_halves, values_with, values_out}
 use Rattle.three_state.specs.ThreeStep.{three_passes, three_half_due, three_half, three_part}
 
 -- a value of each channel into a state
@@ -55,26 +56,26 @@ with_joint-valid x st small below ok =
     }
 
 -- a part of one channel, which leaves the half-cycle in progress or ends it
-part-at : (c : Channel) (g : Gatherers) (p : Parts) → gatherer_at c (with_parts g p) ≡ with_part (gatherer_at c g) (part_at c p)
+part-at : (c : Channel) (g : Three Gatherer) (p : Three Part) → at c (with_parts g p) ≡ with_part (at c g) (at c p)
 part-at on_a g p = refl
 part-at on_b g p = refl
 part-at on_c g p = refl
 
-half_at : (c : Channel) (g : Gatherers) (p : Parts) → gatherer_at c (with_halves g p) ≡ with_half (gatherer_at c g) (part_at c p)
+half_at : (c : Channel) (g : Three Gatherer) (p : Three Part) → at c (with_halves g p) ≡ with_half (at c g) (at c p)
 half_at on_a g p = refl
 half_at on_b g p = refl
 half_at on_c g p = refl
 
 -- the three channels' parts, of one count
-module _ (st : ThreeState) (p : Parts) (ok : ValidThree st) (fits : (c : Channel) → PartFits st.settings.samples (gatherer_at c st.gatherers) (part_at c p)) where
+module _ (st : ThreeState) (p : Three Part) (ok : ValidThree st) (fits : (c : Channel) → PartFits st.settings.samples (at c st.gatherers) (at c p)) where
   abbrev m : ℕ
   m = st.settings.samples
 
   abbrev own : Channel → Gatherer
-  own c = gatherer_at c st.gatherers
+  own c = at c st.gatherers
 
-  with_gatherers-valid : (g : Gatherers) → ((c : Channel) → ValidGatherer m (gatherer_at c g)) → ((c : Channel) → (gatherer_at c g).count ≡ g.a.count)
-      → ((c : Channel) → (gatherer_at c g).whole ≡ g.a.whole) → ValidThree (with_gatherers st g)
+  with_gatherers-valid : (g : Three Gatherer) → ((c : Channel) → ValidGatherer m (at c g)) → ((c : Channel) → (at c g).count ≡ g.a.count)
+      → ((c : Channel) → (at c g).whole ≡ g.a.whole) → ValidThree (with_gatherers st g)
   with_gatherers-valid g valid same_count same_whole = record {
     settings-valid = ok.settings-valid;
     gatherer-valid = valid;
@@ -86,10 +87,10 @@ module _ (st : ThreeState) (p : Parts) (ok : ValidThree st) (fits : (c : Channel
     same_whole = same_whole;
   }
 
-  pub three_part-valid : ((c : Channel) → (part_at c p).count ≡ p.a.count) → st.gatherers.a.count + p.a.count < st.settings.samples → ValidThree (three_part st p)
+  pub three_part-valid : ((c : Channel) → (at c p).count ≡ p.a.count) → st.gatherers.a.count + p.a.count < st.settings.samples → ValidThree (three_part st p)
   three_part-valid same below =
       with_gatherers-valid (with_parts st.gatherers p)
-      (λ c. rw (part-at c st.gatherers p) (with_part-valid m (own c) (part_at c p) (ok.gatherer-valid c) (fits c) (omega (arith, ok.same_count c, same c))))
+      (λ c. rw (part-at c st.gatherers p) (with_part-valid m (own c) (at c p) (ok.gatherer-valid c) (fits c) (omega (arith, ok.same_count c, same c))))
       (λ c. rw (part-at c st.gatherers p) (ap₂ ◌+◌ (ok.same_count c) (same c)))
       (λ c. rw (part-at c st.gatherers p) (ok.same_whole c))
 
@@ -103,11 +104,11 @@ module _ (st : ThreeState) (p : Parts) (ok : ValidThree st) (fits : (c : Channel
       half-valid : ValidThree half
       half-valid =
           with_gatherers-valid (with_halves st.gatherers p)
-          (λ c. rw (half_at c st.gatherers p) (with_half-valid m (own c) (part_at c p) (ok.gatherer-valid c) (fits c)))
+          (λ c. rw (half_at c st.gatherers p) (with_half-valid m (own c) (at c p) (ok.gatherer-valid c) (fits c)))
           (λ c. rw (half_at c st.gatherers p))
           (λ c. rw (half_at c st.gatherers p))
 
-      value-at : (c : Channel) → at c (sizes_of (values_with m st.gatherers p)) ≡ (value_with m (own c) (part_at c p)).value
+      value-at : (c : Channel) → at c (sizes_of (values_with m st.gatherers p)) ≡ (value_with m (own c) (at c p)).value
       value-at on_a = refl
       value-at on_b = refl
       value-at on_c = refl
@@ -116,7 +117,7 @@ module _ (st : ThreeState) (p : Parts) (ok : ValidThree st) (fits : (c : Channel
       go false h = half-valid
       go true h =
           with_joint-valid (values_with m st.gatherers p) half
-          (λ c. rw (value-at c) (value-le m (own c) (part_at c p) (ok.gatherer-valid c) (fits c)))
+          (λ c. rw (value-at c) (value-le m (own c) (at c p) (ok.gatherer-valid c) (fits c)))
           (omega arith) half-valid
 
 -- a fresh state
@@ -144,7 +145,7 @@ three_fresh-valid s valid = record {
     none : List ℕ
     none = replicate places 0
 
-    none-at : (c : Channel) → gatherer_at c no_samples ≡ no_sample
+    none-at : (c : Channel) → at c no_samples ≡ no_sample
     none-at on_a = refl
     none-at on_b = refl
     none-at on_c = refl
@@ -155,7 +156,7 @@ three_fresh-valid s valid = record {
     window-at on_c = refl
 
 -- the records due with parts are four at most
-pub three_half_due-most : (st : ThreeState) (p : Parts) → length (three_half_due st p) ≤ 4
+pub three_half_due-most : (st : ThreeState) (p : Three Part) → length (three_half_due st p) ≤ 4
 unfolding three_half_due
 three_half_due-most st p = go st.gatherers.a.whole
   where
@@ -163,7 +164,7 @@ three_half_due-most st p = go st.gatherers.a.whole
     go true = joint_due_at-most st.settings (values_with st.settings.samples st.gatherers p) st.joint (windows_in st) st.marks
     go false = omega arith
 
-pub three-within-end : (st : ThreeState) (p : Parts) → st.joint.count < last_value → three_passes st p ≡ false
+pub three-within-end : (st : ThreeState) (p : Three Part) → st.joint.count < last_value → three_passes st p ≡ false
 unfolding three_passes
 three-within-end st p below = le-ltb last_value (length (values_out st p) + st.joint.count) (go st.gatherers.a.whole)
   where

@@ -7,30 +7,14 @@ ghost use Rattle.settings.specs.Settings.{ValidSettings};
 ghost use Rattle.three_state.specs.ThreeState.{three_fresh, channel_readings_of, three_readings_of, ValidThree};
 
 use joint::Joint;
-use rms::{Gatherer, Part};
+use rms::Gatherer;
 use settings::Settings;
-use three_reading::{ChannelReadings, ThreeReadings};
-
-// One gatherer for each channel.
-#[derive(Clone, Copy)]
-pub struct Gatherers {
-    pub a: Gatherer,
-    pub b: Gatherer,
-    pub c: Gatherer,
-}
-
-// A part of a half-cycle of each channel.
-#[derive(Clone, Copy)]
-pub struct Parts {
-    pub a: Part,
-    pub b: Part,
-    pub c: Part,
-}
+use three_reading::{ChannelReadings, Three, ThreeReadings};
 
 #[derive(Clone, Copy)]
 pub struct ThreeState {
     pub settings: Settings,
-    pub gatherers: Gatherers,
+    pub gatherers: Three<Gatherer>,
     pub joint: Joint,
     // The channels' windows, and the marks of the joint values in them.
     pub a: [u32; 120],
@@ -61,7 +45,7 @@ impl ThreeState {
         let none = Gatherer::new();
         ThreeState {
             settings,
-            gatherers: Gatherers {
+            gatherers: Three {
                 a: none,
                 b: none,
                 c: none,

@@ -3,7 +3,8 @@ use Rattle.std.proofs.Common.{◌≡◌, ◌∙◌, ap, List, ◌++◌, append_a
 use borrow.Rule.Slice.PartMut.{put_mid}
 use Rattle.rms.specs.declared.Part.{Part}
 use Rattle.rms.specs.Gather.{part_of}
-use Rattle.three_reading.specs.Three.{Three, triples_of, Channel, channel}
+use Rattle.three_reading.specs.declared.Three.{Three}
+use Rattle.three_reading.specs.Three.{triples_of, Channel, channel}
 use Rattle.three_reading.specs.Three.Channel.{on_a, on_b, on_c}
 use Rattle.three_laws.specs.ChannelLaws.{length-channel}
 use Rattle.lanes.specs.Lanes.{lane_in, row_length, lane, laid, SquaresFit, PartsAre}

@@ -1,6 +1,7 @@
 -- What a turn reads is small, and what it lays is the next place of each lane.
 use Rattle.std.proofs.Common.{◌≡◌, refl, sym, ◌∙◌, ap, List, ℕ, ◌+◌, ◌*◌, ◌%◌, ◌<◌, arith, rules, ℤ, length, set}
-use Rattle.three_reading.specs.Three.{Three, each, Channel}
+use Rattle.three_reading.specs.declared.Three.{Three}
+use Rattle.three_reading.specs.Three.{each, Channel}
 use Rattle.three_reading.specs.Three.Channel.{on_a, on_b, on_c}
 use Rattle.lanes.specs.Lanes.{lane_in}
 use Rattle.lanes.specs.LanesLaws.{turn_of, column, length-lane_in, lane_in-at}

@@ -1,8 +1,9 @@
 -- The parts that the last triples are go into the gatherers.
 use Rattle.std.proofs.Common.{◌∙◌, ap, arith}
 use Rattle.rms.specs.Gather.{with_part}
+use Rattle.rms.specs.declared.Part.{Part}
+use Rattle.three_reading.specs.declared.Three.{Three}
 use Rattle.three_reading.specs.Three.Channel.{on_a, on_b, on_c}
-use Rattle.three_state.specs.declared.Parts.{Parts}
 use Rattle.three_feed.proofs.EachPart.{part-joins}
 use Rattle.three_feed.proofs.end_walk.Goals as goal
 
@@ -27,9 +28,9 @@ pub returns : goal.returns
 returns c =
     let a = c.args in
     let are = c.parts_of-parts.ensures.0 in
-    let p = c.with_part.ensures ∙ ap (λ (k : Parts). with_part a.gatherers.a k.a) are.0 in
-    let q = c.with_part-2.ensures ∙ ap (λ (k : Parts). with_part a.gatherers.b k.b) are.0 in
-    let r = c.with_part-3.ensures ∙ ap (λ (k : Parts). with_part a.gatherers.c k.c) are.0 in (
+    let p = c.with_part.ensures ∙ ap (λ (k : Three Part). with_part a.gatherers.a k.a) are.0 in
+    let q = c.with_part-2.ensures ∙ ap (λ (k : Three Part). with_part a.gatherers.b k.b) are.0 in
+    let r = c.with_part-3.ensures ∙ ap (λ (k : Three Part). with_part a.gatherers.c k.c) are.0 in (
       λ i. record {
         gatherers = record { a = p i; b = q i; c = r i };
         joint = a.joint;
