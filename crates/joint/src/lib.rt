@@ -310,14 +310,7 @@ impl Own {
         let first = detection::first_staying(count, window_length);
         let end = first + (window_length as usize - 1);
         let signal = self.signal;
-        let truth = signal.is_true(
-            scaled,
-            window_length,
-            &window[first..end],
-            joining.number,
-            joining.value,
-            joining.after,
-        );
+        let truth = signal.is_true(scaled, window_length, &window[first..end], joining);
         Entering {
             joining,
             sums: after,

@@ -68,6 +68,10 @@ ended_of n j Unsettled = None
 ended_of n j Steady = None
 ended_of n j (Changing c) = closing n j (grown n j c)
 
+-- what the code's step of a change needs of the window's length and of j: that their product fits. It is no part of j's type: `joining_of` reads any window
+abbrev pub ChangeReady : ℕ → Joining → Type 0
+ChangeReady n j = (n ≤ 120) × (j.leaving ≤ 524288)
+
 -- the phase after the value j, at which the signal is true or not, and the record that ends with it
 abbrev pub moved_by : ℕ → Joining → Bool → Phase → Moved
 moved_by n j is_steady p = record { phase = if is_steady then Steady else onward n j p; ended = if is_steady then ended_of n j p else None }

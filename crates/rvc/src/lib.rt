@@ -5,12 +5,13 @@ ghost use Rattle.std.specs.Prelude.{◌≡◌, ◌||◌, ◌*◌, ◌≤◌, max
 ghost use Rattle.numbers.specs.Notation.{◌<ᵇ◌, ◌≡ᵇ◌};
 ghost use Rattle.reading.specs.Changes.{gap};
 ghost use Rattle.rvc.specs.Signal.{limit_of, held_at, steady_by, signal_after, TestReady};
-ghost use Rattle.rvc.specs.Phase.{change_from, grown, closing, signal_in, onward, ended_of, moved_by, moved_on, Joins};
+ghost use Rattle.rvc.specs.Phase.{change_from, grown, closing, signal_in, onward, ended_of, moved_by, moved_on, ChangeReady, Joins};
 
 use reading::{Event, Record};
 use settings::Scaled;
 
-// The steady signal, with what must be kept of it: fewer than N values; never yet true; true; false since value k.
+// The steady signal, with what must be kept of it: fewer than N values; never yet true; true; false since value k. It is no `Phase<u64>` with `Phase<Change>`
+// below: each method matches on one of the two only, so type arguments at every use would be all that one type brings.
 #[derive(Clone, Copy)]
 pub enum Signal {
     Filling,
@@ -28,7 +29,7 @@ pub struct Change {
     pub sum: u64,
     // The greatest difference from that of a value, times N, over k to V − N.
     pub difference: u64,
-    // The first value from k on at which a dip or a swell first stands, or 0; k where one stands at k − 1.
+    // The first value from k on at which a dip or a swell first stands, or 0; k where one stands at k − 1. A number, as `change_row` and `change_rule` have it.
     pub stand: u64,
     // Whether a value from k to V − N is clipped.
     pub clipped: bool,
@@ -58,7 +59,7 @@ pub struct Joining {
     // Its number, from 1.
     pub number: u64,
     pub value: u32,
-    // The value that leaves the window, and its mark, 0 where none does.
+    // The value that leaves the window, and its mark, 0 where none does. The mark is a number, as `joining_of` reads it from a list of them.
     pub leaving: u64,
     pub mark: u64,
     // The window's sum before it, and with it.
@@ -73,13 +74,6 @@ pub struct Joining {
 pub struct Moved {
     pub phase: Phase,
     pub ended: Option<Record>,
-}
-
-// |a − b|.
-fn distance(a: u64, b: u64) -> u64
-    ensures { result ≡ gap a b }
-{
-    if a < b { b - a } else { a - b }
 }
 
 // The stand that a change keeps: the one that it has, else value i, where `stands` says so, else 0.
@@ -100,8 +94,8 @@ fn greatest(window_length: u64, age: u64, leaving: u64, sum: u64, kept: u64) -> 
     if age < window_length {
         return kept;
     }
-    let difference = distance(window_length * leaving, sum);
-    if kept < difference { difference } else { kept }
+    let difference = (window_length * leaving).abs_diff(sum);
+    difference.max(kept)
 }
 
 // Whether a value from k to V − N is clipped: with the value that leaves the window, as above.
@@ -120,10 +114,8 @@ impl Signal {
         ensures { result ≡ limit_of scaled self }
     {
         match self {
-            Signal::Filling => scaled.limit,
-            Signal::Unsettled => scaled.limit,
-            Signal::Steady => scaled.limit,
-            Signal::Changing(_) => numbers::minus(scaled.limit, scaled.reduction),
+            Signal::Filling | Signal::Unsettled | Signal::Steady => scaled.limit,
+            Signal::Changing(_) => scaled.limit.saturating_sub(scaled.reduction),
         }
     }
 
@@ -133,29 +125,21 @@ impl Signal {
     {
         match self {
             Signal::Filling => i < window_length,
-            Signal::Unsettled => false,
-            Signal::Steady => false,
-            Signal::Changing(start) => numbers::minus(i, start) <= window_length,
+            Signal::Unsettled | Signal::Steady => false,
+            Signal::Changing(start) => i.saturating_sub(start) <= window_length,
         }
     }
 
-    // Whether it is true at a value, the newest of a window with this sum whose other values are `part`. While it is held the window is not looked at.
-    pub fn is_true(
-        self,
-        scaled: Scaled,
-        window_length: u64,
-        part: &[u32],
-        number: u64,
-        value: u32,
-        sum: u64,
-    ) -> bool
-        requires { TestReady scaled window_length sum self }
-        ensures { result ≡ steady_by scaled window_length part.now number value sum self }
+    // Whether it is true at a value that joins the window, whose other values are `part`. While it is held the window is not looked at.
+    pub fn is_true(self, scaled: Scaled, window_length: u64, part: &[u32], joining: Joining) -> bool
+        requires { TestReady scaled window_length joining.after self }
+        ensures { result ≡ steady_by scaled window_length part.now joining.number joining.value joining.after self }
     {
-        if self.holds(window_length, number) {
+        if self.holds(window_length, joining.number) {
             return false;
         }
-        window::calm(part, value, window_length, sum, self.limit(scaled))
+        let limit = self.limit(scaled);
+        window::calm(part, joining.value, window_length, joining.after, limit)
     }
 
     // After value i, at which it is true or not.
@@ -197,10 +181,10 @@ impl Change {
     }
 
     fn with_value(self, window_length: u64, joining: Joining) -> Change
-        requires { (window_length ≤ 120) × (joining.leaving ≤ 524288) }
+        requires { ChangeReady window_length joining }
         ensures { result ≡ grown window_length joining self }
     {
-        let age = numbers::minus(joining.number, self.start);
+        let age = joining.number.saturating_sub(self.start);
         let difference = greatest(
             window_length,
             age,
@@ -210,11 +194,10 @@ impl Change {
         );
         let stand = kept_stand(self.stand, joining.stands.first, joining.number);
         Change {
-            start: self.start,
-            sum: self.sum,
             difference,
             stand,
             clipped: marked(window_length, age, joining.mark, self.clipped),
+            ..self
         }
     }
 
@@ -222,16 +205,16 @@ impl Change {
     fn event(self, window_length: u64, joining: Joining) -> Option<Record>
         ensures { result ≡ closing window_length joining self }
     {
-        let settled = numbers::minus(joining.number, window_length);
+        let settled = joining.number.saturating_sub(window_length);
         if (0 < self.stand) & (self.stand <= settled) {
             return None;
         }
         let event = Event {
             kind: Event::CHANGE,
             start: self.start,
-            duration: numbers::minus(settled, self.start),
+            duration: settled.saturating_sub(self.start),
             first: self.difference,
-            second: distance(joining.after, self.sum),
+            second: joining.after.abs_diff(self.sum),
         };
         Some(Record {
             event,
@@ -255,7 +238,7 @@ impl Phase {
 
     // After a value at which the signal is false.
     fn onward(self, window_length: u64, joining: Joining) -> Phase
-        requires { (window_length ≤ 120) × (joining.leaving ≤ 524288) }
+        requires { ChangeReady window_length joining }
         ensures { result ≡ onward window_length joining self }
     {
         match self {
@@ -274,13 +257,11 @@ impl Phase {
 
     // The record of a change that ends with a value, at which the signal is true.
     fn ended(self, window_length: u64, joining: Joining) -> Option<Record>
-        requires { (window_length ≤ 120) × (joining.leaving ≤ 524288) }
+        requires { ChangeReady window_length joining }
         ensures { result ≡ ended_of window_length joining self }
     {
         match self {
-            Phase::Filling => None,
-            Phase::Unsettled => None,
-            Phase::Steady => None,
+            Phase::Filling | Phase::Unsettled | Phase::Steady => None,
             Phase::Changing(change) => change
                 .with_value(window_length, joining)
                 .event(window_length, joining),
@@ -289,7 +270,7 @@ impl Phase {
 
     // After a value at which the signal is true or not: its own, or one that several channels share.
     pub fn moved(self, window_length: u64, joining: Joining, steady: bool) -> Moved
-        requires { (window_length ≤ 120) × (joining.leaving ≤ 524288) }
+        requires { ChangeReady window_length joining }
         ensures { result ≡ moved_by window_length joining steady self }
     {
         if steady {
@@ -308,14 +289,8 @@ impl Phase {
         requires { Joins scaled window_length joining self }
         ensures { result ≡ moved_on scaled window_length part.now joining self }
     {
-        let steady = self.signal().is_true(
-            scaled,
-            window_length,
-            part,
-            joining.number,
-            joining.value,
-            joining.after,
-        );
+        let signal = self.signal();
+        let steady = signal.is_true(scaled, window_length, part, joining);
         self.moved(window_length, joining, steady)
     }
 }
