@@ -1,22 +1,19 @@
--- The window with its first values moved down by one place: a turn of the loop of `push` moves one more, and its last store then makes the pushed window.
-use Rattle.std.proofs.Common.{◌≡◌, ℕ, zero, suc, ◌+◌, ◌<◌, List, [], ◌∷◌, ◌++◌, length, get_or, take, drop, set, refl, ap, add-one, arith}
+-- The window with its first values moved down by one place: the store at the end then makes the pushed window.
+use Rattle.std.proofs.Common.{◌≡◌, ℕ, zero, suc, ◌+◌, ◌-◌, ◌<◌, ◌≤◌, List, [], ◌∷◌, ◌++◌, length, take, drop, set, refl, ap, ◌∙◌, arith}
+use Rattle.std.specs.List.{copy_within, slice_range}
 
--- w with the values 1 to i each moved down by one place
-abbrev pub moved : List ℕ → ℕ → List ℕ
-moved w i = take i (drop 1 w) ++ drop i w
+module _ {A : Type 0} where
+  stored-at : (w : List A) (m : ℕ) (r : A) → m < length w → set (take m (drop 1 w) ++ drop m w) m r ≡ take m (drop 1 w) ++ (r ∷ drop (suc m) w)
+  stored-at [] m r h = absurd (omega arith)
+  stored-at (a ∷ l) zero r h = refl
+  stored-at (a ∷ []) (suc m) r h = absurd (omega arith)
+  stored-at (a ∷ b ∷ l) (suc m) r h = ap (λ (t : List A). b ∷ t) (stored-at (b ∷ l) m r (omega arith))
 
-moved-suc : (w : List ℕ) (i : ℕ) → suc i < length w → set (moved w i) i (get_or (moved w i) (suc i) 0) ≡ moved w (suc i)
-moved-suc [] i h = absurd (omega arith)
-moved-suc (a ∷ []) i h = absurd (omega arith)
-moved-suc (a ∷ b ∷ l) zero h = refl
-moved-suc (a ∷ b ∷ l) (suc i) h = ap (λ (t : List ℕ). b ∷ t) (moved-suc (b ∷ l) i (omega arith))
-
-pub moved_more : (w : List ℕ) (i : ℕ) → i + 1 < length w → set (moved w i) i (get_or (moved w i) (i + 1) 0) ≡ moved w (i + 1)
-moved_more w i h = rw add-one (moved-suc w i (omega arith))
-
--- the last store
-pub moved-last : (w : List ℕ) (m r : ℕ) → m < length w → set (moved w m) m r ≡ take m (drop 1 w) ++ (r ∷ drop (suc m) w)
-moved-last [] m r h = absurd (omega arith)
-moved-last (a ∷ l) zero r h = refl
-moved-last (a ∷ []) (suc m) r h = absurd (omega arith)
-moved-last (a ∷ b ∷ l) (suc m) r h = ap (λ (t : List ℕ). b ∷ t) (moved-last (b ∷ l) m r (omega arith))
+  pub stored : (w : List A) (n : ℕ) (r : A) → 0 < n → n ≤ length w → set (copy_within w 1 n 0) (n - 1) r ≡ slice_range w 1 n ++ (r ∷ drop n w)
+  stored w n r some long =
+      let m = n - 1 in
+      let k : suc m ≡ n = omega arith in
+      let from : 0 + m ≡ m = omega arith in
+      ap (λ (j : ℕ). set (take m (drop 1 w) ++ drop j w) m r) from
+      ∙ stored-at w m r (omega arith)
+      ∙ ap (λ (j : ℕ). take m (drop 1 w) ++ (r ∷ drop j w)) k

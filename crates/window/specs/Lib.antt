@@ -4,3 +4,4 @@ pub mod WindowFollows
 pub mod WindowValid
 pub mod Range
 pub mod RangeLaws
+pub mod Places

@@ -8,7 +8,7 @@ use Rattle.reading.specs.Image.{places_of}
 use Rattle.reading.specs.Restore.{places_rule}
 
 -- value r after v values, n of them kept
-abbrev pub pushed : ℕ → ℕ → List ℕ → ℕ → List ℕ
+abbrev pub pushed : {A : Type 0} → ℕ → ℕ → List A → A → List A
 pushed n v w r = if v <ᵇ n then slice_set w v r else slice_range w 1 n ++ (r ∷ drop n w)
 
 -- the values that stay with it in the window of n; and the one that leaves, 0 where none does

@@ -1,19 +1,11 @@
-use Rattle.std.proofs.Common.{◌≡◌, suc, ◌-◌, false, arith, length-set, le-ltb}
+-- Where no place is free, the values move down and the last store makes the pushed window.
+use Rattle.std.proofs.Common.{◌≡◌, false, le-ltb}
 use Rattle.numbers.specs.Notation.{◌<ᵇ◌}
-use Rattle.window.proofs.Shift.{moved_more, moved-last}
+use Rattle.window.proofs.Shift.{stored}
 use Rattle.window.proofs.push.Goals as goal
 
-pub loop-i-preserved : goal.loop-i-preserved
-loop-i-preserved c =
-    let loop = c.loop-i in
-    let window₀ = c.args.window.now in
-    (omega arith, rw loop.invariant.1 (moved_more window₀ loop.i (omega arith)), simp length-set loop.invariant.2)
-
-pub returns : goal.returns
-returns c =
+pub returns-else-count-window_length : goal.returns-else-count-window_length
+returns-else-count-window_length g c =
     let a = c.args in
-    let loop = c.loop-i in
-    let e : loop.i ≡ a.window_length - 1 = omega arith in
-    let k : suc (a.window_length - 1) ≡ a.window_length = omega arith in
     let full : (a.count <ᵇ a.window_length) ≡ false = le-ltb _ _ c.if-count-window_length.false in
-    rw (full, loop.invariant.1, e, moved-last a.window.now (a.window_length - 1) a.value (omega arith), k)
+    rw (full, c.copy_within.ensures.after) (stored a.window.now a.window_length a.value c.requires.0 c.requires.1)

@@ -2,10 +2,8 @@ use Rattle.std.proofs.Common.{arith}
 use Rattle.window.proofs.OneMore.{sum_more}
 use Rattle.window.proofs.sum_of.Goals as goal
 
-pub loop-i-preserved : goal.loop-i-preserved
-loop-i-preserved c =
-    let part = c.args.part.now in
-    let i = c.loop-i.i in
-    let below = c.type_inv.part i in
-    let more = sum_more part i (omega arith) in
-    (omega arith, omega arith, omega arith)
+pub loop-place-preserved : goal.loop-place-preserved
+loop-place-preserved g c =
+    let place = g.T.Place in
+    let more = sum_more place.number place.numbers g.met.T.Place.one_by_one c.args.part.now c.loop-place.place-index c.place-item.result (omega arith) c.place-item.is in
+    (omega arith, omega arith)
