@@ -55,8 +55,8 @@ words_are b =
 
 pub returns : goal.returns
 returns c =
-    (λ i. c.word.ensures i ∷ c.wide.ensures i ∷ c.word-2.ensures i ∷ c.word-3.ensures i
-    ∷ c.wide-2.ensures i ∷ c.wide-3.ensures i ∷ c.word-4.ensures i
-    ∷ c.wide-4.ensures i ∷ c.word-5.ensures i ∷ c.wide-5.ensures i ∷ c.word-6.ensures i
-    ∷ c.word-7.ensures i ∷ c.word-8.ensures i ∷ c.word-9.ensures i ∷ c.word-10.ensures i ∷ [])
+    (λ i. c.from.ensures i ∷ c.wide.ensures i ∷ c.from-2.ensures i ∷ c.from-3.ensures i
+    ∷ c.wide-2.ensures i ∷ c.wide-3.ensures i ∷ c.from-4.ensures i
+    ∷ c.wide-4.ensures i ∷ c.from-5.ensures i ∷ c.wide-5.ensures i ∷ c.from-6.ensures i
+    ∷ c.from-7.ensures i ∷ c.from-8.ensures i ∷ c.from-9.ensures i ∷ c.from-10.ensures i ∷ [])
     ∙ (ap joined_words c.get_words.ensures ∙ words_are c.args.part.now)

@@ -8,7 +8,8 @@ use Rattle.bodies.proofs.put_gatherer.Goals as goal
 pub returns : goal.returns
 returns c =
     let g = c.args.gatherer in
-    let whole = c.flag.ensures in
-    let mark = c.flag-2.ensures in
-    let last-mark = c.flag-3.ensures in
-    c.put_row.ensures ∙ (λ i. row gatherer_widths (g.count ∷ g.sum ∷ g.last ∷ whole i ∷ mark i ∷ last-mark i ∷ []))
+    let count = c.from.ensures in
+    let whole = c.from-2.ensures in
+    let mark = c.from-3.ensures in
+    let last-mark = c.from-4.ensures in
+    c.put_row.ensures ∙ (λ i. row gatherer_widths (count i ∷ g.sum ∷ g.last ∷ whole i ∷ mark i ∷ last-mark i ∷ []))

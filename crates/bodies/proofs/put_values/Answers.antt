@@ -35,8 +35,8 @@ module _ (w marks : List ℕ) (values-size : length w ≡ places) (marks-size : 
 pub returns : goal.returns
 returns c =
     let a = c.args in
-    values-put a.window.now a.marks.now c.requires.1 c.requires.2 a.part.now a.count _ _ _ c.requires.0
-    (bytes-by a.marks.now (λ i. omega (arith, c.type_inv.marks i)))
+    values-put a.window.now a.marks.now c.told-window c.told-marks a.part.now a.count _ _ _ c.requires
+    (bytes-by a.marks.now (λ i. omega (arith, c.fits-marks i)))
     (bytes_of-part 0 count_width a.count a.part.now _ (omega arith) c.put_number.ensures)
     c.put_words.ensures
-    c.copy.ensures
+    c.copy_from_slice.ensures.after

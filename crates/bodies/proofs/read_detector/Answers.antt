@@ -39,6 +39,12 @@ pub returns : goal.returns
 returns c =
     let v = c.args.count in
     let ns = c.events_numbers-numbers.result in
-    ap (λ (q : Phase). accepted (with-phase v ns q)) c.phase_of-phase.ensures
+    (λ i. accepted (record {
+      count = v;
+      dip = c.standing.ensures i;
+      swell = c.standing-2.ensures i;
+      interruption = c.standing-3.ensures i;
+      phase = c.phase_of.ensures i;
+    }))
     ∙ (ap (λ (b : Bool). answer-by b v ns) (sym c.if-not-events_good.false)
     ∙ answer-is c.args.settings v c.args.part.now ns c.events_good.result c.events_numbers-numbers.ensures c.window_length.ensures.0 c.events_good.ensures)

@@ -25,15 +25,15 @@ answer-is s body ns r e t = ap (λ (b : Bool). answer-by b ns) t ∙ ap (λ (l :
 
 pub overflow_cast-result : goal.overflow_cast-result
 overflow_cast-result c =
-    let h = holds (gatherer_rule c.args.settings.samples c.get_row.new.numbers) (sym c.gatherer_good.ensures ∙ c.if-gatherer_good.true) in
+    let h = holds (gatherer_rule c.args.settings.samples c.get_row.new.numbers) (sym c.gatherer_good.ensures ∙ c.if-not-gatherer_good.false) in
     omega (arith, h.0)
 
-pub returns-then-gatherer_good : goal.returns-then-gatherer_good
-returns-then-gatherer_good c =
-    ap (λ (b : Bool). answer-by b c.get_row.new.numbers) (sym c.if-gatherer_good.true)
+pub returns : goal.returns
+returns c =
+    ap (λ (b : Bool). answer-by b c.get_row.new.numbers) (sym c.if-not-gatherer_good.false)
     ∙ answer-is c.args.settings c.args.part.now _ _ c.get_row.ensures c.gatherer_good.ensures
 
-pub returns-else-gatherer_good : goal.returns-else-gatherer_good
-returns-else-gatherer_good c =
-    ap (λ (b : Bool). answer-by b c.get_row.new.numbers) (sym c.if-gatherer_good.false)
+pub returns-then-not-gatherer_good : goal.returns-then-not-gatherer_good
+returns-then-not-gatherer_good c =
+    ap (λ (b : Bool). answer-by b c.get_row.new.numbers) (sym c.if-not-gatherer_good.true)
     ∙ answer-is c.args.settings c.args.part.now _ _ c.get_row.ensures c.gatherer_good.ensures

@@ -1,34 +1,34 @@
--- `check::same` tells whether the bytes are those that `put_table` writes, which are the table; so its answer is the reading's test.
+-- `==` of bytes is the reading's test of them, pair by pair; and the bytes that `put_table` writes are the table.
 use mathlib.Core.Path.{◌≡◌, refl, sym, ◌∙◌, ap}
-use mathlib.Core.Bool.{Bool, true, false}
-use mathlib.Core.List.{List}
+use mathlib.Core.Bool.{Bool, ◌&&◌}
+use mathlib.Core.List.{List, [], ◌∷◌}
 use Prim.Native.Nat.{ℕ}
-use Rattle.numbers.specs.Notation.{refuse◌unless◌then◌}
+use lib.Dec.{eqb}
+use lib.Pointwise.{pointwise}
+use Rattle.numbers.specs.Notation.{◌≡ᵇ◌, refuse◌unless◌then◌}
 use Rattle.reading.specs.Image.{table_with}
 use Rattle.reading.specs.Restore.{same_bytes}
-use Rattle.bodies.specs.BodiesLaws.{same-equal, same-itself}
+use Rattle.bodies.specs.Bodies.{table_refusal}
 use Rattle.bodies.proofs.read_table.Goals as goal
 
--- an answer that is true of equal bytes only, and of all that are equal, is the reading's test
-answer-same : (xs ys : List ℕ) (r : Bool) → (r ≡ true → xs ≡ ys) → (xs ≡ ys → r ≡ true) → r ≡ same_bytes xs ys
-answer-same xs ys true f g = sym (ap (λ (l : List ℕ). same_bytes l ys) (f refl) ∙ same-itself ys)
-answer-same xs ys false f g = go (same_bytes xs ys) refl
-  where
-    go : (t : Bool) → same_bytes xs ys ≡ t → false ≡ t
-    go true e = g (same-equal xs ys e)
-    go false e = refl
+pairs_same : (xs ys : List ℕ) → pointwise eqb xs ys ≡ same_bytes xs ys
+pairs_same [] [] = refl
+pairs_same [] (y ∷ ys) = refl
+pairs_same (x ∷ xs) [] = refl
+pairs_same (x ∷ xs) (y ∷ ys) = ap ((x ≡ᵇ y) &&◌) (pairs_same xs ys)
 
-abbrev number_by : Bool → ℕ
-number_by b = refuse 9 unless b then 0
+told : (n : ℕ) (part written ys : List ℕ) (r : Bool) → r ≡ pointwise eqb part ys → ys ≡ written → written ≡ table_with n → (refuse 9 unless r then 0) ≡ table_refusal n part
+told n part written ys r e taken is =
+    (λ i. refuse 9 unless e i then 0)
+    ∙ ((λ i. refuse 9 unless pointwise eqb part (taken i) then 0)
+    ∙ ((λ i. refuse 9 unless pairs_same part written i then 0) ∙ (λ i. refuse 9 unless same_bytes part (is i) then 0)))
 
--- what `same` answered of the bytes that were written
-answer : (part : List ℕ) (r : Bool) (n : ℕ) {written : List ℕ} → written ≡ table_with n → (r ≡ true → part ≡ written) → (part ≡ written → r ≡ true) → r ≡ same_bytes part (table_with n)
-answer part r n {written = written} e f g = answer-same part written r f g ∙ ap (same_bytes part) e
+pub returns-then-eq : goal.returns-then-eq
+returns-then-eq c =
+    (λ i. refuse 9 unless sym c.if-eq.true i then 0)
+    ∙ told c.args.count_width c.args.part.now _ _ c.eq.result c.eq.ensures c.as_slice.ensures c.put_table.ensures
 
-pub returns-then-same : goal.returns-then-same
-returns-then-same c =
-    ap number_by (sym c.if-same.true ∙ answer c.args.part.now c.same.result c.args.count_width c.put_table.ensures c.same.ensures.0 c.same.ensures.1)
-
-pub returns-else-same : goal.returns-else-same
-returns-else-same c =
-    ap number_by (sym c.if-same.false ∙ answer c.args.part.now c.same.result c.args.count_width c.put_table.ensures c.same.ensures.0 c.same.ensures.1)
+pub returns-else-eq : goal.returns-else-eq
+returns-else-eq c =
+    (λ i. refuse 9 unless sym c.if-eq.false i then 0)
+    ∙ told c.args.count_width c.args.part.now _ _ c.eq.result c.eq.ensures c.as_slice.ensures c.put_table.ensures

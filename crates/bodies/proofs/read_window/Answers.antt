@@ -9,17 +9,15 @@ use lib.Seq.{take_all, take_at, drop_at, drop-drop, take-append-le, drop-append-
 use Rattle.octets.specs.Bytes.{number_of, numbers_in, total}
 use Rattle.octets.specs.RowLaws.{length-numbers_in, numbers_in-append, numbers_in-ones}
 use Rattle.numbers.specs.Notation.{flag, refuse◌unless◌then◌}
+use Rattle.numbers.specs.Answers.{answered}
 use Rattle.numbers.specs.Rules.{passes}
 use Rattle.settings.specs.declared.Settings.{Settings}
 use Rattle.settings.specs.Settings.{window_length_of}
 use Rattle.reading.specs.Layout.{count_width, places, values_widths, values_length}
 use Rattle.reading.specs.Restore.{values_rule}
-use Rattle.bodies.specs.declared.Verdict.{Verdict}
-use Rattle.bodies.specs.Bodies.{values_number, marks_at, WindowTold}
+use Rattle.bodies.specs.declared.WindowRead.{WindowRead}
+use Rattle.bodies.specs.Bodies.{marks_at, window_from, window_answer}
 use Rattle.bodies.proofs.read_window.Goals as goal
-
-abbrev number_by : Bool → ℕ
-number_by b = refuse 11 unless b then 0
 
 -- bytes behind those of a row leave its numbers
 numbers_in-front : (ws b rest : List ℕ) → length b ≡ total ws → numbers_in ws (b ++ rest) ≡ numbers_in ws b
@@ -52,26 +50,27 @@ module _ (body : List ℕ) (size : length body ≡ values_length) where
       ap (number_of (take count_width body) ∷◌)
       (ap₂ ◌++◌ words_are marks_are ∙ sym (numbers_in-append (replicate places 4) (replicate places 1) (drop count_width body)))
 
-  told : (s : Settings) (whole : Bool) {v n : ℕ} {w marks : List ℕ} {verdict : Verdict} →
+  window-told : (s : Settings) (whole : Bool) {v n : ℕ} {w marks : List ℕ} →
       v ≡ number_of (take count_width body) → w ≡ numbers_in (replicate places 4) words → marks ≡ take (values_length - marks_at) rest → n ≡ window_length_of s →
-      (r : Bool) → r ≡ passes (values_rule n (flag whole) (v ∷ (w ++ marks))) → values_number verdict ≡ number_by r →
-      WindowTold s whole body (record { verdict = verdict; count = v; window = w; marks = marks })
-  told s whole {v} {n} {w} {marks} v-is w-is marks-is n-is r e number =
+      (r : Bool) → r ≡ passes (values_rule n (flag whole) (v ∷ (w ++ marks))) →
+      answered (refuse 11 unless r then 0) (record { count = v; window = w; marks = marks }) ≡ window_answer s whole body
+  unfolding window_answer
+  window-told s whole {v} {n} {w} {marks} v-is w-is marks-is n-is r e =
       let are : v ∷ (w ++ marks) ≡ numbers_in values_widths body = (λ i. v-is i ∷ (w-is i ++ marks-is i)) ∙ numbers-are in
       let long : length w ≡ places = ap length w-is ∙ length-numbers_in (replicate places 4) words in
-      record {
-        number_is = number ∙ (ap number_by e ∙ (λ i. number_by (passes (values_rule (n-is i) (flag whole) (are i)))));
-        count_is = v-is;
-        window-is = sym (take_at w marks places long) ∙ (λ i. take places (drop 1 (are i)));
-        marks_are = sym (drop_at w marks places long) ∙ (λ i. drop (1 + places) (are i));
-      }
+      let window-is = sym (take_at w marks places long) in
+      let marks_are = sym (drop_at w marks places long) in
+      (λ i. answered (refuse 11 unless e i then 0) (record { count = v; window = window-is i; marks = marks_are i }))
+      ∙ (λ i. answered (refuse 11 unless passes (values_rule (n-is i) (flag whole) (are i)) then 0) (window_from (are i)))
 
-pub returns-then-values_good : goal.returns-then-values_good
-returns-then-values_good c =
-    told c.args.part.now c.requires c.args.settings c.args.whole c.number-count.ensures c.get_words.ensures c.copy.ensures c.window_length.ensures.0
-    c.values_good.result c.values_good.ensures (ap number_by (sym c.if-values_good.true))
+pub returns-then-not-values_good : goal.returns-then-not-values_good
+returns-then-not-values_good c =
+    ap (λ (b : Bool). answered (refuse 11 unless b then 0) (record { count = c.number-count.result; window = c.get_words.new.places; marks = c.copy_from_slice.new.self })) (sym c.if-not-values_good.true)
+    ∙ window-told c.args.part.now c.requires c.args.settings c.args.whole c.number-count.ensures c.get_words.ensures c.copy_from_slice.ensures.after c.window_length.ensures.0
+    c.values_good.result c.values_good.ensures
 
-pub returns-else-values_good : goal.returns-else-values_good
-returns-else-values_good c =
-    told c.args.part.now c.requires c.args.settings c.args.whole c.number-count.ensures c.get_words.ensures c.copy.ensures c.window_length.ensures.0
-    c.values_good.result c.values_good.ensures (ap number_by (sym c.if-values_good.false))
+pub returns : goal.returns
+returns c =
+    ap (λ (b : Bool). answered (refuse 11 unless b then 0) (record { count = c.number-count.result; window = c.get_words.new.places; marks = c.copy_from_slice.new.self })) (sym c.if-not-values_good.false)
+    ∙ window-told c.args.part.now c.requires c.args.settings c.args.whole c.number-count.ensures c.get_words.ensures c.copy_from_slice.ensures.after c.window_length.ensures.0
+    c.values_good.result c.values_good.ensures
