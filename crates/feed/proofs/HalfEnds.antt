@@ -1,6 +1,6 @@
 -- The end of a half-cycle, `complete`: what it hands to the step of one value, and its ways out. The first half-cycle gives no value; V may be at its end, the
 -- records may not fit; else it is taken.
-use Rattle.std.specs.Prelude.{if◌then◌else◌}
+use Rattle.std.specs.Prelude.{if◌then◌else◌, Ok, Err}
 use mathlib.Core.Path.{◌≡◌, refl, sym, ◌∙◌, ap}
 use mathlib.Core.Bool.{Bool, true, false, ◌||◌}
 use mathlib.Core.List.{List, [], ◌∷◌}
@@ -14,6 +14,8 @@ use Rattle.settings.specs.declared.Scaled.{Scaled}
 use Rattle.settings.specs.Settings.{window_length_of}
 use Rattle.reading.specs.declared.Record.{Record}
 use Rattle.rms.specs.declared.Marked.{Marked}
+use Rattle.reading.specs.declared.Stop.{Stop}
+use Rattle.reading.specs.declared.Stop.TheVariants.{Room, End}
 use Rattle.reading.specs.Values.{rms}
 use Rattle.reading.specs.Feed.{last_value}
 use Rattle.reading.specs.Records.{record_bytes}
@@ -31,7 +33,7 @@ use Rattle.state.specs.declared.State.{State}
 use Rattle.state.specs.State.{state_with}
 use Rattle.state.specs.Step.{with_values, due_on, with_gatherer, value_out, passes_end, half_due, half_joined, why_not}
 use Rattle.feed.specs.declared.Half.{Half}
-use Rattle.feed.specs.Feed.{HalfReady, half_by, half_outcome, refused_half, half_of}
+use Rattle.feed.specs.Feed.{HalfReady, half_by, half_outcome, half_of}
 
 module _ {s : Settings} {t : Scaled} {g : Gatherer} {d : Detector} {a : Sums} {w ms : List ℕ} {p : Part} (pre : HalfReady s t g d a w ms p) where
   abbrev st : State
@@ -54,20 +56,25 @@ module _ {s : Settings} {t : Scaled} {g : Gatherer} {d : Detector} {a : Sums} {w
 
   module _ (lent : List ℕ) where
     -- a half-cycle that is not taken
-    refused : (y : ℕ) → why_not st p (room lent) ≡ suc y → (h : Half) → h ≡ refused_half g d a (suc y) → half_of s h w ms lent ≡ half_outcome st p lent
+    abbrev NotTaken : Stop → Type 0
+    NotTaken stop = half_of s g d a (Err stop) w ms lent ≡ half_outcome st p lent
+
+    refused : (y : ℕ) → why_not st p (room lent) ≡ suc y → record { after = st; sums = a; written = 0; why = suc y; bytes = lent } ≡ half_outcome st p lent
     unfolding half_outcome
-    refused y why h is =
-        ap (λ (k : Half). half_of s k w ms lent) is
-        ∙ (λ i. record { after = st; sums = pre.sums-are i; written = 0; why = suc y; bytes = lent })
+    refused y why =
+        (λ i. record { after = st; sums = pre.sums-are i; written = 0; why = suc y; bytes = lent })
         ∙ sym (ap (λ (k : ℕ). half_by k st p lent) why)
 
     -- one that is
+    abbrev IsTaken : Half → List ℕ → List ℕ → List ℕ → Type 0
+    IsTaken h w₁ ms₁ out = half_of s g d a (Ok h) w₁ ms₁ out ≡ half_outcome st p lent
+
     taken : (h : Half) (w₁ ms₁ out : List ℕ) → why_not st p (room lent) ≡ 0 → state_with s h.gatherer h.detector w₁ ms₁ ≡ half_joined st p → h.sums ≡ sums_of w₁ ms₁ →
-        h.written ≡ length (half_due st p) → h.why ≡ 0 → out ≡ over (record_bytes (half_due st p)) lent → half_of s h w₁ ms₁ out ≡ half_outcome st p lent
+        h.written ≡ length (half_due st p) → out ≡ over (record_bytes (half_due st p)) lent → IsTaken h w₁ ms₁ out
     unfolding half_outcome
-    taken h w₁ ms₁ out why after_is sums-are written_is none bytes-are =
+    taken h w₁ ms₁ out why after_is sums-are written_is bytes-are =
         let sums : h.sums ≡ sums_of (half_joined st p).window (half_joined st p).marks = sums-are ∙ ap (λ (z : State). sums_of z.window z.marks) after_is in
-        (λ i. record { after = after_is i; sums = sums i; written = written_is i; why = none i; bytes = bytes-are i })
+        (λ i. record { after = after_is i; sums = sums i; written = written_is i; why = 0; bytes = bytes-are i })
         ∙ sym (ap (λ (k : ℕ). half_by k st p lent) why)
 
     -- what V's end and the room tell
@@ -77,17 +84,17 @@ module _ {s : Settings} {t : Scaled} {g : Gatherer} {d : Detector} {a : Sums} {w
 
     -- the first half-cycle
     pub first-half : g.whole ≡ false → (half : Gatherer) → half ≡ with_half g p →
-        half_of s (record { gatherer = half; detector = d; sums = a; written = 0; why = 0 }) w ms lent ≡ half_outcome st p lent
+        IsTaken (record { gatherer = half; detector = d; sums = a; written = 0 }) w ms lent
     unfolding passes_end half_due half_joined value_from
     first-half first half half_is =
         let none : value_out st p ≡ [] = ap (λ (b : Bool). if b then value_with s.samples g p ∷ [] else []) first in
         let no_end : passes_end st p ≡ false =
         ap (λ (vs : List Marked). last_value <ᵇ length vs + d.count) none ∙ le-ltb last_value (0 + d.count) (omega (arith, pre.valid.count-le)) in
         let no-event : half_due st p ≡ [] = ap (λ (vs : List Marked). due_on vs st) none in
-        taken (record { gatherer = half; detector = d; sums = a; written = 0; why = 0 }) w ms lent
+        taken (record { gatherer = half; detector = d; sums = a; written = 0 }) w ms lent
         (why-is false false no_end (ap (λ (es : List Record). room lent <ᵇ length es) no-event ∙ le-ltb (room lent) 0 (omega arith)))
         (λ i. with_values (sym none i) (with_gatherer st (half_is i)))
-        pre.sums-are (sym (ap length no-event)) refl (sym (ap (λ (es : List Record). over (record_bytes es) lent) no-event))
+        pre.sums-are (sym (ap length no-event)) (sym (ap (λ (es : List Record). over (record_bytes es) lent) no-event))
 
     -- another one gives a value
     module _ (whole : g.whole ≡ true) where
@@ -96,11 +103,11 @@ module _ {s : Settings} {t : Scaled} {g : Gatherer} {d : Detector} {a : Sums} {w
       value-is = ap (λ (b : Bool). if b then value_with s.samples g p ∷ [] else []) whole
 
       -- V is at its end
-      pub end-half : d.count ≡ last_value → (h : Half) → h ≡ refused_half g d a 2 → half_of s h w ms lent ≡ half_outcome st p lent
+      pub end-half : d.count ≡ last_value → NotTaken End
       unfolding passes_end
-      end-half c h is =
+      end-half c =
           let past : passes_end st p ≡ true = ap (λ (vs : List Marked). last_value <ᵇ length vs + d.count) value-is ∙ lt-ltb last_value (1 + d.count) (omega arith) in
-          refused 1 (why-is true _ past refl) h is
+          refused 1 (why-is true _ past refl)
 
       module _ (more : d.count ≡ last_value → ⊥) (half : Gatherer) (half_is : half ≡ with_half g p) (r : ℕ) (r-is : r ≡ rms s.samples g.last half.last) where
         abbrev x : Marked
@@ -127,18 +134,18 @@ module _ {s : Settings} {t : Scaled} {g : Gatherer} {d : Detector} {a : Sums} {w
           room-test full e = why-is false full not_end (ap (λ (k : ℕ). room lent <ᵇ k) (sym written_is) ∙ e)
 
           -- its records do not fit
-          pub full-half : room lent < written → (h : Half) → h ≡ refused_half g d a 1 → half_of s h w ms lent ≡ half_outcome st p lent
-          full-half few h is = refused 0 (room-test true (lt-ltb (room lent) written few)) h is
+          pub full-half : room lent < written → NotTaken Room
+          full-half few = refused 0 (room-test true (lt-ltb (room lent) written few))
 
           -- it is taken
           pub taken-half : written ≤ room lent → (w₁ ms₁ out : List ℕ) → w₁ ≡ pushed (window_length_of s) d.count w r →
               ms₁ ≡ pushed (window_length_of s) d.count ms (flag x.clipped) → out ≡ over (record_bytes (records_of tried.due)) lent →
-              half_of s (record { gatherer = half; detector = tried.after; sums = tried.sums; written = written; why = 0 }) w₁ ms₁ out ≡ half_outcome st p lent
+              IsTaken (record { gatherer = half; detector = tried.after; sums = tried.sums; written = written }) w₁ ms₁ out
           unfolding half_joined
           taken-half fits w₁ ms₁ out window-is marks_are bytes-are =
               let after_is : state_with s half tried.after w₁ ms₁ ≡ half_joined st p =
               (λ i. state_with s (half_is i) (tried-is i).after (window-is i) (marks_are i)) ∙ ap (λ (vs : List Marked). with_values vs (with_gatherer st (with_half g p))) out-is in
-              taken (record { gatherer = half; detector = tried.after; sums = tried.sums; written = written; why = 0 }) w₁ ms₁ out
+              taken (record { gatherer = half; detector = tried.after; sums = tried.sums; written = written }) w₁ ms₁ out
               (room-test false (le-ltb (room lent) written fits)) after_is
-              (ap (λ (k : Tried). k.sums) tried-is ∙ sym (λ i. sums_of (window-is i) (marks_are i))) written_is refl
+              (ap (λ (k : Tried). k.sums) tried-is ∙ sym (λ i. sums_of (window-is i) (marks_are i))) written_is
               (bytes-are ∙ ap (λ (es : List Record). over (record_bytes es) lent) due-is)

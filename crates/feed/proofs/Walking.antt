@@ -8,9 +8,13 @@ use native.Mathlib.Omega.{arith}
 use lib.ListN.{length, take, drop, length-drop, take-append-drop}
 use lib.IntN.{ℤ}
 use borrow.Rule.Slice.PartMut.{put_mid}
+use Rattle.std.specs.Prelude.{Option, Some, None, Result, Ok, Err}
 use Rattle.settings.specs.declared.Settings.{Settings}
 use Rattle.settings.specs.declared.Scaled.{Scaled}
 use Rattle.settings.specs.Settings.{scaled_of}
+use Rattle.reading.specs.declared.Stop.{Stop}
+use Rattle.reading.specs.declared.Stop.TheVariants.{Room, End}
+use Rattle.reading.specs.Told.{stop_number, why_number, told_in}
 use Rattle.reading.specs.Engineer.{room}
 use Rattle.reading.specs.Layout.{record_length}
 use Rattle.rms.specs.declared.Part.{Part}
@@ -48,8 +52,12 @@ half-refused : (y : ℕ) (o : HalfOutcome) (st : State) (p : Part) (lent : List 
 half-refused zero o st p lent e some = absurd (omega (arith, ap (λ (k : HalfOutcome). k.why) e))
 half-refused (suc y) o st p lent e some = (ap (λ (k : HalfOutcome). k.why) e, ap (λ (k : HalfOutcome). k.after) e, ap (λ (k : HalfOutcome). k.bytes) e)
 
+stop-some : (stop : Stop) → 0 < stop_number stop
+stop-some Room = omega arith
+stop-some End = omega arith
+
 -- what `end_walk` gives
-abbrev pub WalkEnds : Gatherer → Detector → List ℤ → ℕ → ℕ → ℕ → Walked → Type 0
+abbrev pub WalkEnds : Gatherer → Detector → List ℤ → ℕ → ℕ → Option Stop → Walked → Type 0
 WalkEnds g d samples taken written why last = (last ≡ walked_with g d (part_of samples) taken written why) × ((part_of samples).squares ≤ length samples * 2 ^ 30)
 
 -- what `walk` gives
@@ -67,17 +75,15 @@ module _ (s : Settings) (w₀ ms₀ : List ℕ) (block : List ℤ) (lent : List 
     pub within : Within s.samples g (drop at block) share
     pub share-is : share ≡ cut s.samples g (drop at block)
     pub long : length out ≡ length lent
-    pub wide : length w ≡ length w₀
-    pub marked : length ms ≡ length ms₀
     pub fits : record_length * written ≤ length lent
     pub share_in : at + share.count ≤ length block
     pub samples-most : s.samples ≤ 256
     pub sum-le : g.sum ≤ g.count * 2 ^ 30
 
   walking : (w ms out : List ℕ) (g : Gatherer) (d : Detector) (sums : Sums) (at written : ℕ) (share : Share) → Progress machine ValidState first block lent (state_with s g d w ms) at written out →
-      sums ≡ sums_of w ms → share ≡ cut s.samples g (drop at block) → length out ≡ length lent → length w ≡ length w₀ → length ms ≡ length ms₀ →
+      sums ≡ sums_of w ms → share ≡ cut s.samples g (drop at block) → length out ≡ length lent →
       Walking w ms out g d sums at written share
-  walking w ms out g d sums at written share so_far sums-are share-is long wide marked =
+  walking w ms out g d sums at written share so_far sums-are share-is long =
       let within : Within s.samples g (drop at block) share = rw share-is (cut-within s.samples (drop at block) g so_far.valid.gatherer-valid.0) in
       record {
         so_far = so_far;
@@ -85,8 +91,6 @@ module _ (s : Settings) (w₀ ms₀ : List ℕ) (block : List ℤ) (lent : List 
         within = within;
         share-is = share-is;
         long = long;
-        wide = wide;
-        marked = marked;
         fits = omega (arith, so_far.fits);
         share_in = omega (arith, within.inside, so_far.at_in, length-drop at block);
         samples-most = so_far.valid.settings-valid.samples-valid.1;
@@ -95,7 +99,7 @@ module _ (s : Settings) (w₀ ms₀ : List ℕ) (block : List ℤ) (lent : List 
 
   -- it starts
   pub walk-starts : ValidState first → (sums : Sums) (share : Share) → sums ≡ sums_of w₀ ms₀ → share ≡ cut s.samples g₀ block → Walking w₀ ms₀ lent g₀ d₀ sums 0 0 share
-  walk-starts ok sums share sums-are share-is = walking w₀ ms₀ lent g₀ d₀ sums 0 0 share (progress-none machine first block lent ok) sums-are share-is refl refl refl
+  walk-starts ok sums share sums-are share-is = walking w₀ ms₀ lent g₀ d₀ sums 0 0 share (progress-none machine first block lent ok) sums-are share-is refl
 
 -- it turns and ends
 module _ {s : Settings} {w₀ ms₀ : List ℕ} {block : List ℤ} {lent : List ℕ} {g₀ : Gatherer} {d₀ : Detector} {w ms out : List ℕ} {g : Gatherer} {d : Detector}
@@ -116,17 +120,17 @@ module _ {s : Settings} {w₀ ms₀ : List ℕ} {block : List ℤ} {lent : List 
   rest = drop at block
 
   -- the end of the walk, with a part that leaves the half-cycle in progress
-  walk-last : (last : Walked) (p : Part) (taken why : ℕ) (w₁ ms₁ out₁ : List ℕ) → PartFits s.samples g p → g.count + p.count < s.samples →
+  walk-last : (last : Walked) (p : Part) (taken : ℕ) (why : Option Stop) (w₁ ms₁ out₁ : List ℕ) → PartFits s.samples g p → g.count + p.count < s.samples →
       last ≡ walked_with g d p taken written why → w₁ ≡ w → ms₁ ≡ ms → (k : ℕ) → taken ≡ at + k →
-      fed_by machine st rest left ≡ record { after = part_joined st p; taken = k; records = []; why = why } → out₁ ≡ take behind out ++ drop behind out →
+      fed_by machine st rest left ≡ record { after = part_joined st p; taken = k; records = []; why = why_number why } → out₁ ≡ take behind out ++ drop behind out →
       WalkIs st₀ block lent s w₁ ms₁ last out₁
   unfolding fed_with
   walk-last last p taken why w₁ ms₁ out₁ fits below last-is window-is marks_are k taken_is fed bytes-are =
       let none : written ≡ written + 0 = omega arith in
       let end_is : state_with s last.gatherer last.detector w₁ ms₁ ≡ part_joined st p = λ i. state_with s (last-is i).gatherer (last-is i).detector (window-is i) (marks_are i) in (
-        (λ i. record { after = end_is i; told = (last-is i).told; bytes = out₁ })
-            ∙ (λ i. record { after = part_joined st p; told = record { taken = taken_is i; written = none i; why = why }; bytes = out₁ })
-            ∙ progress-last inv.so_far (record { after = part_joined st p; taken = k; records = []; why = why }) out₁ fed bytes-are,
+        (λ i. record { after = end_is i; told = told_in (last-is i).told; bytes = out₁ })
+            ∙ (λ i. record { after = part_joined st p; told = record { taken = taken_is i; written = none i; why = why_number why }; bytes = out₁ })
+            ∙ progress-last inv.so_far (record { after = part_joined st p; taken = k; records = []; why = why_number why }) out₁ fed bytes-are,
         subst ValidState (sym end_is) (part_joined-valid st p inv.so_far.valid fits below),
       )
 
@@ -160,82 +164,85 @@ module _ {s : Settings} {w₀ ms₀ : List ℕ} {block : List ℤ} {lent : List 
       complete-ready t scaled-is = record { valid = inv.so_far.valid; scaled-is = scaled-is; sums-are = inv.sums-are; part-fits = q-fits }
 
       -- what `complete` gave, on the buffer behind the records written before
-      module _ {h : Half} {w₁ ms₁ part : List ℕ} (is : half_of s h w₁ ms₁ part ≡ half_outcome st q (take (length out - behind) (drop behind out))) where
-        abbrev back : List ℕ
-        back = put_mid behind (length out - behind) out part
+      abbrev Gives : Result Half Stop → List ℕ → List ℕ → List ℕ → Type 0
+      Gives ended w₁ ms₁ part = half_of s g d sums ended w₁ ms₁ part ≡ half_outcome st q (take (length out - behind) (drop behind out))
 
-        back_is : back ≡ take behind out ++ part
-        back_is = back-behind behind out part (omega (arith, inv.fits, inv.long))
+      abbrev back : List ℕ → List ℕ
+      back part = put_mid behind (length out - behind) out part
 
-        room-is : room (drop behind out) ≡ left
-        room-is = omega (arith, length-drop behind out, inv.so_far.fits, inv.long)
+      back_is : (part : List ℕ) → back part ≡ take behind out ++ part
+      back_is part = back-behind behind out part (omega (arith, inv.fits, inv.long))
 
-        given : half_of s h w₁ ms₁ part ≡ half_by (why_not st p left) st p (drop behind out)
-        unfolding half_outcome
-        given = is ∙ (λ i. half_outcome st (q-is i) (lent-behind behind out i)) ∙ ap (λ (k : ℕ). half_by (why_not st p k) st p (drop behind out)) room-is
+      room-is : room (drop behind out) ≡ left
+      room-is = omega (arith, length-drop behind out, inv.so_far.fits, inv.long)
 
-        -- it is taken
-        module _ (none : h.why ≡ 0) where
-          took : (why_not st p left ≡ 0) × (half_of s h w₁ ms₁ part ≡ half_by 0 st p (drop behind out))
-          took = half-taken (why_not st p left) (half_of s h w₁ ms₁ part) st p (drop behind out) given none
+      given : (ended : Result Half Stop) (w₁ ms₁ part : List ℕ) → Gives ended w₁ ms₁ part → half_of s g d sums ended w₁ ms₁ part ≡ half_by (why_not st p left) st p (drop behind out)
+      unfolding half_outcome
+      given ended w₁ ms₁ part is = is ∙ (λ i. half_outcome st (q-is i) (lent-behind behind out i)) ∙ ap (λ (k : ℕ). half_by (why_not st p k) st p (drop behind out)) room-is
 
-          after_is : half_joined st p ≡ state_with s h.gatherer h.detector w₁ ms₁
-          after_is = sym (ap (λ (o : HalfOutcome). o.after) took.1)
+      -- it is taken
+      module _ (h : Half) {w₁ ms₁ part : List ℕ} (is : Gives (Ok h) w₁ ms₁ part) where
+        took : (why_not st p left ≡ 0) × (half_of s g d sums (Ok h) w₁ ms₁ part ≡ half_by 0 st p (drop behind out))
+        took = half-taken (why_not st p left) (half_of s g d sums (Ok h) w₁ ms₁ part) st p (drop behind out) (given (Ok h) w₁ ms₁ part is) refl
 
-          written_is : length (half_due st p) ≡ h.written
-          written_is = sym (ap (λ (o : HalfOutcome). o.written) took.1)
+        after_is : half_joined st p ≡ state_with s h.gatherer h.detector w₁ ms₁
+        after_is = sym (ap (λ (o : HalfOutcome). o.after) took.1)
 
-          next : Progress machine ValidState st₀ block lent (state_with s h.gatherer h.detector w₁ ms₁) (at + n) (written + h.written) back
-          next =
-              let t = taken-if (passes_end st p) (half_due st p) left took.0 in
-              subst (λ (k : ℕ). Progress machine ValidState st₀ block lent (state_with s h.gatherer h.detector w₁ ms₁) (at + n) (written + k) back) written_is
-              (subst (λ (z : State). Progress machine ValidState st₀ block lent z (at + n) (written + length (half_due st p)) back) after_is
-              (progress-more inv.so_far n (half_due st p) (half_joined st p) back inv.share_in t.1
-              (half_joined-valid st p inv.so_far.valid p-fits t.0)
-              (feed-taken cuts st rest left inv.so_far.valid.gatherer-valid.0 share inv.share-is completes took.0)
-              (back_is ∙ ap (λ (l : List ℕ). take behind out ++ l) (ap (λ (o : HalfOutcome). o.bytes) took.1))))
+        written_is : length (half_due st p) ≡ h.written
+        written_is = sym (ap (λ (o : HalfOutcome). o.written) took.1)
 
-          pub taken-fits : written + h.written ≤ room lent
-          taken-fits = next.fits
+        next : Progress machine ValidState st₀ block lent (state_with s h.gatherer h.detector w₁ ms₁) (at + n) (written + h.written) (back part)
+        next =
+            let t = taken-if (passes_end st p) (half_due st p) left took.0 in
+            subst (λ (k : ℕ). Progress machine ValidState st₀ block lent (state_with s h.gatherer h.detector w₁ ms₁) (at + n) (written + k) (back part)) written_is
+            (subst (λ (z : State). Progress machine ValidState st₀ block lent z (at + n) (written + length (half_due st p)) (back part)) after_is
+            (progress-more inv.so_far n (half_due st p) (half_joined st p) (back part) inv.share_in t.1
+            (half_joined-valid st p inv.so_far.valid p-fits t.0)
+            (feed-taken cuts st rest left inv.so_far.valid.gatherer-valid.0 share inv.share-is completes took.0)
+            (back_is part ∙ ap (λ (l : List ℕ). take behind out ++ l) (ap (λ (o : HalfOutcome). o.bytes) took.1))))
 
-          pub taken-count : h.gatherer.count < s.samples
-          taken-count = next.valid.gatherer-valid.0
+        pub taken-fits : written + h.written ≤ room lent
+        taken-fits = next.fits
 
-          pub walk-turns : (share₁ : Share) → share₁ ≡ cut s.samples h.gatherer (take (length block - (at + n)) (drop (at + n) block)) →
-              length back ≡ length out → length w₁ ≡ length w → length ms₁ ≡ length ms →
-              Walking s w₀ ms₀ block lent g₀ d₀ w₁ ms₁ back h.gatherer h.detector h.sums (at + n) (written + h.written) share₁
-          walk-turns share₁ share-is long wide marked =
-              walking s w₀ ms₀ block lent g₀ d₀ w₁ ms₁ back h.gatherer h.detector h.sums (at + n) (written + h.written) share₁ next
-              (ap (λ (o : HalfOutcome). o.sums) took.1 ∙ ap (λ (z : State). sums_of z.window z.marks) after_is)
-              (share-is ∙ ap (cut s.samples h.gatherer) (lent-behind (at + n) block)) (long ∙ inv.long) (wide ∙ inv.wide) (marked ∙ inv.marked)
+        pub taken-count : h.gatherer.count < s.samples
+        taken-count = next.valid.gatherer-valid.0
 
-        -- it is not
-        pub walk-stops : 0 < h.why → (last : Walked) → WalkEnds g d (take (at + n - 1 - at) rest) (at + n - 1) written h.why last →
-            WalkIs st₀ block lent s w₁ ms₁ last back
-        walk-stops some last ended =
-            let stopped = half-refused (why_not st p left) (half_of s h w₁ ms₁ part) st p (drop behind out) given some in
-            let window-is : w₁ ≡ w = ap (λ (z : State). z.window) stopped.1 in
-            let marks_are : ms₁ ≡ ms = ap (λ (z : State). z.marks) stopped.1 in
-            let bytes-are : part ≡ drop behind out = stopped.2 in
-            let less : Part = part_of (take (n - 1) rest) in
-            let less-is : part_of (take (at + n - 1 - at) rest) ≡ less = part-of at (n - 1) (at + n - 1 - at) block (omega arith) in
-            let some_in : 0 < n = share-some in
-            let long : length (take (n - 1) rest) ≡ n - 1 = part-long at (n - 1) block (omega (arith, inv.share_in)) in
-            let below : g.count + less.count < s.samples = omega (arith, inv.within.fits) in
-            let bound : less.squares ≤ less.count * 2 ^ 30 = omega (arith, ended.1, ap (λ (k : Part). k.squares) less-is, ap (λ (k : Part). k.count) less-is) in
-            walk-last last less (at + n - 1) h.why w₁ ms₁ back (part_of-fits s.samples g (take (n - 1) rest) bound (omega arith)) below
-            (ended.0 ∙ ap (λ (k : Part). walked_with g d k (at + n - 1) written h.why) less-is) window-is marks_are
-            (n - 1) (omega arith) (feed-stops cuts st rest left inv.so_far.valid.gatherer-valid.0 share inv.share-is completes h.why stopped.0 some)
-            (back_is ∙ ap (λ (l : List ℕ). take behind out ++ l) bytes-are)
+        pub walk-turns : (share₁ : Share) → share₁ ≡ cut s.samples h.gatherer (take (length block - (at + n)) (drop (at + n) block)) →
+            length (back part) ≡ length out →
+            Walking s w₀ ms₀ block lent g₀ d₀ w₁ ms₁ (back part) h.gatherer h.detector h.sums (at + n) (written + h.written) share₁
+        walk-turns share₁ share-is long =
+            walking s w₀ ms₀ block lent g₀ d₀ w₁ ms₁ (back part) h.gatherer h.detector h.sums (at + n) (written + h.written) share₁ next
+            (ap (λ (o : HalfOutcome). o.sums) took.1 ∙ ap (λ (z : State). sums_of z.window z.marks) after_is)
+            (share-is ∙ ap (cut s.samples h.gatherer) (lent-behind (at + n) block)) (long ∙ inv.long)
+
+      -- it is not
+      pub walk-stops : (stop : Stop) {w₁ ms₁ part : List ℕ} → Gives (Err stop) w₁ ms₁ part → (last : Walked) →
+          WalkEnds g d (take (at + n - 1 - at) rest) (at + n - 1) written (Some stop) last → WalkIs st₀ block lent s w₁ ms₁ last (back part)
+      walk-stops stop {w₁} {ms₁} {part} is last ended =
+          let some : 0 < stop_number stop = stop-some stop in
+          let stopped = half-refused (why_not st p left) (half_of s g d sums (Err stop) w₁ ms₁ part) st p (drop behind out) (given (Err stop) w₁ ms₁ part is) some in
+          let window-is : w₁ ≡ w = ap (λ (z : State). z.window) stopped.1 in
+          let marks_are : ms₁ ≡ ms = ap (λ (z : State). z.marks) stopped.1 in
+          let bytes-are : part ≡ drop behind out = stopped.2 in
+          let less : Part = part_of (take (n - 1) rest) in
+          let less-is : part_of (take (at + n - 1 - at) rest) ≡ less = part-of at (n - 1) (at + n - 1 - at) block (omega arith) in
+          let some_in : 0 < n = share-some in
+          let long : length (take (n - 1) rest) ≡ n - 1 = part-long at (n - 1) block (omega (arith, inv.share_in)) in
+          let below : g.count + less.count < s.samples = omega (arith, inv.within.fits) in
+          let bound : less.squares ≤ less.count * 2 ^ 30 = omega (arith, ended.1, ap (λ (k : Part). k.squares) less-is, ap (λ (k : Part). k.count) less-is) in
+          walk-last last less (at + n - 1) (Some stop) w₁ ms₁ (back part) (part_of-fits s.samples g (take (n - 1) rest) bound (omega arith)) below
+          (ended.0 ∙ ap (λ (k : Part). walked_with g d k (at + n - 1) written (Some stop)) less-is) window-is marks_are
+          (n - 1) (omega arith) (feed-stops cuts st rest left inv.so_far.valid.gatherer-valid.0 share inv.share-is completes (stop_number stop) stopped.0 some)
+          (back_is part ∙ ap (λ (l : List ℕ). take behind out ++ l) bytes-are)
 
   -- none ends
-  pub walk_ends : share.completes ≡ false → (last : Walked) → WalkEnds g d (take (length block - at) rest) (length block) written 0 last →
+  pub walk_ends : share.completes ≡ false → (last : Walked) → WalkEnds g d (take (length block - at) rest) (length block) written None last →
       WalkIs st₀ block lent s w ms last out
   walk_ends leaves last ended =
       let all-is : part_of (take (length block - at) rest) ≡ part_of rest = ap part_of (lent-behind at block) in
       let below : g.count + length rest < s.samples = inv.within.below leaves in
       let bound : (part_of rest).squares ≤ length rest * 2 ^ 30 = omega (arith, ended.1, ap (λ (k : Part). k.squares) all-is, ap (λ (k : Part). k.count) all-is) in
-      walk-last last (part_of rest) (length block) 0 w ms out (part_of-fits s.samples g rest bound (omega arith)) below
-      (ended.0 ∙ ap (λ (k : Part). walked_with g d k (length block) written 0) all-is) refl refl
+      walk-last last (part_of rest) (length block) None w ms out (part_of-fits s.samples g rest bound (omega arith)) below
+      (ended.0 ∙ ap (λ (k : Part). walked_with g d k (length block) written None) all-is) refl refl
       (length rest) (omega (arith, length-drop at block, inv.so_far.at_in))
       (feed-rest cuts st rest left inv.so_far.valid.gatherer-valid.0 share inv.share-is leaves) (sym (take-append-drop behind out))

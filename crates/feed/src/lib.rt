@@ -149,7 +149,7 @@ pub fn walk(
         let end = at + share.count;
         let behind = RECORD_LENGTH * written;
         let part = rms::sum_squares(&block[at..end]);
-        let ended = complete(
+        match complete(
             settings,
             scaled,
             g,
@@ -159,8 +159,7 @@ pub fn walk(
             marks,
             part,
             &mut records[behind..],
-        );
-        match ended {
+        ) {
             Err(stop) => {
                 let taken = end - 1;
                 return end_walk(g, d, &block[at..taken], taken, written, Some(stop));

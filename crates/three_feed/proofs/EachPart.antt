@@ -3,12 +3,11 @@ use Rattle.std.proofs.Common.{◌≡◌, refl, ◌∙◌, ap, ℕ, ◌+◌, ◌/
 use Rattle.rms.specs.declared.Part.{Part}
 use Rattle.rms.specs.Gather.{part_of, PartFits}
 use Rattle.rms.specs.GatherLaws.{part_of-fits}
-use Rattle.rms.specs.declared.Gatherer.{Gatherer}
-use Rattle.three_reading.specs.declared.Three.{Three}
-use Rattle.three_reading.specs.Three.{at, Channel, triples_of, channel}
+use Rattle.three_reading.specs.Three.{Three, Channel, triples_of, channel, at}
 use Rattle.three_reading.specs.Three.Channel.{on_a, on_b, on_c}
 use Rattle.three_laws.specs.ChannelLaws.{length-channel}
 use Rattle.three_laws.specs.TriplesLaws.{length-triples}
+use Rattle.rms.specs.declared.Gatherer.{Gatherer}
 use Rattle.three_state.specs.ThreeStep.{parts_of}
 use Rattle.lanes.specs.Lanes.{SquaresFit, PartsAre}
 use Rattle.three_feed.specs.Feed.{RoomFor}

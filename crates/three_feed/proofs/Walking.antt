@@ -1,9 +1,12 @@
 -- The walk through a block of triples: its invariant, which starts, turns and ends.
-use Rattle.std.proofs.Common.{◌≡◌, refl, sym, ◌∙◌, ap, subst, true, false, List, [], ◌++◌, ℕ, zero, suc, ◌+◌, ◌-◌, ◌*◌, ◌/◌, ◌%◌, ◌≤◌, ◌<◌, arith, length, take, drop, length-drop, take-append-drop, ℤ}
+use Rattle.std.proofs.Common.{◌≡◌, refl, sym, ◌∙◌, ap, subst, true, false, List, [], ◌++◌, ℕ, zero, suc, ◌+◌, ◌-◌, ◌*◌, ◌/◌, ◌%◌, ◌≤◌, ◌<◌, arith, length, take, drop, length-drop, take-append-drop, ℤ, Option, Some, None, Result, Ok, Err}
 use borrow.Rule.Slice.PartMut.{put_mid, same_len_mid}
 use Rattle.settings.specs.declared.Settings.{Settings}
 use Rattle.settings.specs.declared.Scaled.{Scaled}
 use Rattle.settings.specs.Settings.{scaled_of}
+use Rattle.reading.specs.declared.Stop.{Stop}
+use Rattle.reading.specs.declared.Stop.TheVariants.{Room, End}
+use Rattle.reading.specs.Told.{stop_number, why_number, told_in}
 use Rattle.reading.specs.Engineer.{room}
 use Rattle.reading.specs.Layout.{record_length}
 use Rattle.rms.specs.declared.Share.{Share}
@@ -12,16 +15,15 @@ use Rattle.rms.specs.CutLaws.{Within, cut-within}
 use Rattle.greedy.specs.Greedy.{fed_by}
 use Rattle.greedy.proofs.CutterLaws.{taken-if, feed-taken, feed-stops, feed-rest}
 use Rattle.greedy.proofs.ProgressLaws.{Progress, progress-none, progress-more, progress-last, part-long, lent-behind, back-behind}
-use Rattle.rms.specs.declared.Gatherer.{Gatherer}
-use Rattle.rms.specs.declared.Part.{Part}
-use Rattle.three_reading.specs.declared.Three.{Three}
-use Rattle.three_reading.specs.Three.{Channel, at, triples_of, channel}
+use Rattle.three_reading.specs.Three.{Three, Channel, at, triples_of, channel}
 use Rattle.three_reading.specs.Three.Channel.{on_a, on_b, on_c}
 use Rattle.three_laws.specs.ChannelLaws.{length-channel}
 use Rattle.three_laws.specs.TriplesLaws.{length-triples, triples-drop, triples-part}
 use Rattle.joint.specs.declared.Joint.{Joint}
 use Rattle.joint.specs.declared.JointSums.{JointSums}
 use Rattle.joint.specs.Joint.{joint_sums_of}
+use Rattle.rms.specs.declared.Gatherer.{Gatherer}
+use Rattle.rms.specs.declared.Part.{Part}
 use Rattle.three_state.specs.declared.ThreeState.{ThreeState}
 use Rattle.three_state.specs.ThreeState.{windows_in, three_with, ValidThree}
 use Rattle.three_state.specs.ThreeStep.{parts_of, with_halves, three_passes, three_half_due, three_half, three_part, three_why_not, three_machine}
@@ -30,9 +32,7 @@ use Rattle.three_state.specs.ThreeStepValid.{three_part-valid, three_half-valid}
 use Rattle.three_state.specs.ThreeFed.{three_fed_with}
 use Rattle.lanes.specs.Lanes.{SquaresFit, PartsAre}
 use Rattle.three_half.specs.declared.Half.{Half}
-use Rattle.three_half.specs.declared.HalfEnd.{HalfEnd}
-use Rattle.three_half.specs.declared.HalfEnd.TheVariants.{Taken, Refused}
-use Rattle.three_half.specs.Halves.{HalfReady, HalfOutcome, half_by, half_outcome, half_of, WhySaid, HalfIs}
+use Rattle.three_half.specs.Halves.{HalfReady, HalfOutcome, half_by, half_outcome, half_of}
 use Rattle.three_feed.specs.declared.ThreeWalked.{ThreeWalked}
 use Rattle.three_feed.specs.Feed.{walked_of, walked_with, RoomFor}
 use Rattle.three_feed.proofs.EachPart.{count_at, parts-fit}
@@ -56,11 +56,15 @@ half-refused : (y : ℕ) (o : HalfOutcome) (st : ThreeState) (p : Three Part) (l
 half-refused zero o st p lent e some = absurd (omega (arith, ap (λ (k : HalfOutcome). k.why) e))
 half-refused (suc y) o st p lent e some = (ap (λ (k : HalfOutcome). k.why) e, ap (λ (k : HalfOutcome). k.after) e, ap (λ (k : HalfOutcome). k.bytes) e)
 
+stop-some : (stop : Stop) → 0 < stop_number stop
+stop-some Room = omega arith
+stop-some End = omega arith
+
 -- what `cut_of`, `end_walk` and `walk` give, and what a walk has of the lanes
 abbrev CutIs : Settings → Three Gatherer → List (Three ℤ) → Share → Type 0
 CutIs s g xs share = share ≡ cut s.samples g.a (channel on_a xs)
 
-abbrev WalkEnds : Three Gatherer → Joint → List (Three ℤ) → ℕ → ℕ → ℕ → ThreeWalked → Type 0
+abbrev WalkEnds : Three Gatherer → Joint → List (Three ℤ) → ℕ → ℕ → Option Stop → ThreeWalked → Type 0
 WalkEnds g j xs taken written why last = (last ≡ walked_with g j xs taken written why) × SquaresFit xs
 
 abbrev WalkIs : ThreeState → List (Three ℤ) → List ℕ → Settings → Three (List ℕ) → List ℕ → ThreeWalked → List ℕ → Type 0
@@ -175,9 +179,9 @@ module _ {s : Settings} {ws₀ : Three (List ℕ)} {ms₀ : List ℕ} {block : L
   behind-long e inside = part-long (3 * e) (length block - 3 * e) block (omega (arith, inv.size)) ∙ omega (arith, inv.size)
 
   -- the end of the walk, with triples that leave the half-cycle in progress
-  walk-last : (last : ThreeWalked) (ys zs : List (Three ℤ)) (taken why : ℕ) (ws₁ : Three (List ℕ)) (ms₁ out₁ : List ℕ) →
+  walk-last : (last : ThreeWalked) (ys zs : List (Three ℤ)) (taken : ℕ) (why : Option Stop) (ws₁ : Three (List ℕ)) (ms₁ out₁ : List ℕ) →
       WalkEnds g j zs taken written why last → zs ≡ ys → g.a.count + length ys < s.samples → ws₁ ≡ ws → ms₁ ≡ ms → (k : ℕ) → taken ≡ from + k →
-      fed_by three_machine st rest left ≡ record { after = three_part st (parts_of ys); taken = k; records = []; why = why } →
+      fed_by three_machine st rest left ≡ record { after = three_part st (parts_of ys); taken = k; records = []; why = why_number why } →
       out₁ ≡ take behind out ++ drop behind out →
       WalkIs st₀ xs lent s ws₁ ms₁ last out₁
   unfolding three_fed_with
@@ -188,9 +192,9 @@ module _ {s : Settings} {ws₀ : Three (List ℕ)} {ms₀ : List ℕ} {block : L
       let end_is : three_with s last.gatherers last.joint ws₁ ms₁ ≡ three_part st (parts_of ys) =
       λ i. three_with s (last-is i).gatherers (last-is i).joint (windows-are i) (marks_are i) in
       let even : (c : Channel) → (at c (parts_of ys)).count ≡ (parts_of ys).a.count = λ c. count_at c ys ∙ sym (count_at on_a ys) in (
-        (λ i. record { after = end_is i; told = (last-is i).told; bytes = out₁ })
-            ∙ (λ i. record { after = three_part st (parts_of ys); told = record { taken = taken_is i; written = none i; why = why }; bytes = out₁ })
-            ∙ progress-last inv.so_far (record { after = three_part st (parts_of ys); taken = k; records = []; why = why }) out₁ fed bytes-are,
+        (λ i. record { after = end_is i; told = told_in (last-is i).told; bytes = out₁ })
+            ∙ (λ i. record { after = three_part st (parts_of ys); told = record { taken = taken_is i; written = none i; why = why_number why }; bytes = out₁ })
+            ∙ progress-last inv.so_far (record { after = three_part st (parts_of ys); taken = k; records = []; why = why_number why }) out₁ fed bytes-are,
         subst ValidThree (sym end_is)
             (three_part-valid st (parts_of ys) inv.so_far.valid (fits_all ys small (omega arith)) even (omega (arith, count_at on_a ys))),
       )
@@ -237,8 +241,13 @@ module _ {s : Settings} {ws₀ : Three (List ℕ)} {ms₀ : List ℕ} {block : L
       }
 
       -- what `complete` gave, on the buffer behind the records written before
-      module _ {r : HalfEnd} {ws₁ : Three (List ℕ)} {ms₁ part : List ℕ}
-          (is : HalfIs s g j sums q r ws₁ ms₁ part (half_outcome st q (take (length out - behind) (drop behind out)))) where
+      module _ {ws₁ : Three (List ℕ)} {ms₁ part : List ℕ} where
+        abbrev outcome : Result Half Stop → HalfOutcome
+        outcome ended = half_of s g j sums q ended ws₁ ms₁ part
+
+        abbrev Gives : Result Half Stop → Type 0
+        Gives ended = outcome ended ≡ half_outcome st q (take (length out - behind) (drop behind out))
+
         abbrev back : List ℕ
         back = put_mid behind (length out - behind) out part
 
@@ -248,20 +257,17 @@ module _ {s : Settings} {ws₀ : Three (List ℕ)} {ms₀ : List ℕ} {block : L
         room-is : room (drop behind out) ≡ left
         room-is = omega (arith, length-drop behind out, inv.so_far.fits, inv.long)
 
-        abbrev outcome : HalfEnd → HalfOutcome
-        outcome ended = half_of s g j sums q ended ws₁ ms₁ part
-
-        given : outcome r ≡ half_by (three_why_not st p left) st p (drop behind out)
+        given : (ended : Result Half Stop) → Gives ended → outcome ended ≡ half_by (three_why_not st p left) st p (drop behind out)
         unfolding half_outcome
-        given = is.outcome-is ∙ (λ i. half_outcome st (q-is i) (lent-behind behind out i)) ∙ ap (λ (k : ℕ). half_by (three_why_not st p k) st p (drop behind out)) room-is
+        given ended is = is ∙ (λ i. half_outcome st (q-is i) (lent-behind behind out i)) ∙ ap (λ (k : ℕ). half_by (three_why_not st p k) st p (drop behind out)) room-is
 
         -- it is taken
-        module _ {h : Half} (r-is : r ≡ Taken h) {g₁ : Three Gatherer} (halves_are : g₁ ≡ with_halves g q) where
+        module _ {h : Half} (is : Gives (Ok h)) {g₁ : Three Gatherer} (halves_are : g₁ ≡ with_halves g q) where
           abbrev after : ThreeState
           after = three_with s g₁ h.joint ws₁ ms₁
 
-          took : (three_why_not st p left ≡ 0) × (outcome (Taken h) ≡ half_by 0 st p (drop behind out))
-          took = half-taken (three_why_not st p left) (outcome (Taken h)) st p (drop behind out) (sym (ap outcome r-is) ∙ given) refl
+          took : (three_why_not st p left ≡ 0) × (outcome (Ok h) ≡ half_by 0 st p (drop behind out))
+          took = half-taken (three_why_not st p left) (outcome (Ok h)) st p (drop behind out) (given (Ok h) is) refl
 
           after_is : three_half st p ≡ after
           after_is = sym (ap (λ (o : HalfOutcome). o.after) took.1) ∙ sym (ap (λ (k : Three Gatherer). three_with s k h.joint ws₁ ms₁) halves_are)
@@ -296,17 +302,17 @@ module _ {s : Settings} {ws₀ : Three (List ℕ)} {ms₀ : List ℕ} {block : L
               lanes-long (same-records part kept) whole-triples
 
         -- it is not
-        pub walk-stops : (why : ℕ) → r ≡ Refused why → (last : ThreeWalked) →
-            WalkEnds g j (triples_of (take (3 * (from + n - 1) - 3 * from) (drop (3 * from) block))) (from + n - 1) written why last →
+        pub walk-stops : (stop : Stop) → Gives (Err stop) → (last : ThreeWalked) →
+            WalkEnds g j (triples_of (take (3 * (from + n - 1) - 3 * from) (drop (3 * from) block))) (from + n - 1) written (Some stop) last →
             WalkIs st₀ xs lent s ws₁ ms₁ last back
-        walk-stops why r-is last ended =
-            let some : 0 < why = subst WhySaid r-is is.why-said in
-            let stopped = half-refused (three_why_not st p left) (outcome (Refused why)) st p (drop behind out) (sym (ap outcome r-is) ∙ given) some in
+        walk-stops stop is last ended =
+            let some : 0 < stop_number stop = stop-some stop in
+            let stopped = half-refused (three_why_not st p left) (outcome (Err stop)) st p (drop behind out) (given (Err stop) is) some in
             let some_in : 0 < n = share-some in
             let long : length (take (n - 1) rest) ≡ n - 1 = part-long from (n - 1) xs (omega (arith, inv.share_in)) in
-            walk-last last (take (n - 1) rest) _ (from + n - 1) why ws₁ ms₁ back ended (triples-between from (n - 1) (from + n - 1) block (omega arith))
+            walk-last last (take (n - 1) rest) _ (from + n - 1) (Some stop) ws₁ ms₁ back ended (triples-between from (n - 1) (from + n - 1) block (omega arith))
             (omega (arith, inv.within.fits)) (ap windows_in stopped.1) (ap (λ (z : ThreeState). z.marks) stopped.1) (n - 1) (omega arith)
-            (feed-stops three_cuts st rest left (inv.so_far.valid.gatherer-valid on_a).0 share inv.cut-is completes why stopped.0 some)
+            (feed-stops three_cuts st rest left (inv.so_far.valid.gatherer-valid on_a).0 share inv.cut-is completes (stop_number stop) stopped.0 some)
             (back_is ∙ ap (λ (l : List ℕ). take behind out ++ l) stopped.2)
 
   -- none ends
@@ -317,9 +323,9 @@ module _ {s : Settings} {ws₀ : Three (List ℕ)} {ms₀ : List ℕ} {block : L
       (omega arith, room_for _ (omega (arith, inv.within.below leaves, length-channel on_a rest, length-drop from xs)))
 
   pub walk_ends : share.completes ≡ false → (last : ThreeWalked) →
-      WalkEnds g j (triples_of (take (length block - 3 * from) (drop (3 * from) block))) (length block / 3) written 0 last → WalkIs st₀ xs lent s ws ms last out
+      WalkEnds g j (triples_of (take (length block - 3 * from) (drop (3 * from) block))) (length block / 3) written None last → WalkIs st₀ xs lent s ws ms last out
   walk_ends leaves last ended =
-      walk-last last rest _ (length block / 3) 0 ws ms out ended (triples-behind from block)
+      walk-last last rest _ (length block / 3) None ws ms out ended (triples-behind from block)
       (omega (arith, inv.within.below leaves, length-channel on_a rest)) refl refl
       (length rest) (omega (arith, length-drop from xs, inv.so_far.at_in, inv.size))
       (feed-rest three_cuts st rest left (inv.so_far.valid.gatherer-valid on_a).0 share inv.cut-is leaves) (sym (take-append-drop behind out))

@@ -109,7 +109,7 @@ pub fn walk(
         let stop = 3 * end;
         let behind = RECORD_LENGTH * written;
         let parts = lanes::parts_of(&block[start..stop], &mut lane_a, &mut lane_b, &mut lane_c);
-        let ended = three_half::complete(
+        match three_half::complete(
             settings,
             scaled,
             g,
@@ -121,8 +121,7 @@ pub fn walk(
             marks,
             parts,
             &mut records[behind..],
-        );
-        match ended {
+        ) {
             Err(stop) => {
                 let taken = end - 1;
                 let rest = 3 * taken;

@@ -1,21 +1,22 @@
 -- The end of a half-cycle, `complete`: what it hands on, and its ways out. The first half-cycle gives no value; V may be at its end, the records may not fit;
 -- else it is taken.
-use Rattle.std.proofs.Common.{if◌then◌else◌, ◌≡◌, refl, sym, ◌∙◌, ap, Bool, true, false, List, [], ◌∷◌, ℕ, suc, ◌+◌, ◌≤◌, ◌<◌, arith, length, lt-ltb, le-ltb}
+use Rattle.std.proofs.Common.{if◌then◌else◌, ◌≡◌, refl, sym, ◌∙◌, ap, Bool, true, false, List, [], ◌∷◌, ℕ, suc, ◌+◌, ◌≤◌, ◌<◌, arith, length, lt-ltb, le-ltb, Ok, Err}
 use Rattle.numbers.specs.Notation.{◌<ᵇ◌, flag}
 use Rattle.settings.specs.declared.Settings.{Settings}
 use Rattle.settings.specs.declared.Scaled.{Scaled}
 use Rattle.settings.specs.Settings.{window_length_of}
 use Rattle.reading.specs.declared.Record.{Record}
+use Rattle.reading.specs.declared.Stop.{Stop}
+use Rattle.reading.specs.declared.Stop.TheVariants.{Room, End}
 use Rattle.reading.specs.Feed.{last_value}
 use Rattle.reading.specs.Records.{record_bytes}
 use Rattle.reading.specs.Engineer.{over, room}
 use Rattle.rms.specs.declared.Gatherer.{Gatherer}
+use Rattle.rms.specs.declared.Part.{Part}
 use Rattle.rms.specs.Gather.{with_half}
 use Rattle.window.specs.Window.{pushed}
 use Rattle.records.specs.Due.{records_of}
-use Rattle.rms.specs.declared.Part.{Part}
-use Rattle.three_reading.specs.declared.Three.{Three}
-use Rattle.three_reading.specs.Three.{at, Channel}
+use Rattle.three_reading.specs.Three.{Three, Channel, at}
 use Rattle.three_reading.specs.Three.Channel.{on_a, on_b, on_c}
 use Rattle.joint.specs.declared.Joint.{Joint}
 use Rattle.joint.specs.declared.JointSums.{JointSums}
@@ -26,8 +27,8 @@ use Rattle.three_state.specs.declared.ThreeState.{ThreeState}
 use Rattle.three_state.specs.ThreeState.{windows_in, three_with}
 use Rattle.three_state.specs.ThreeStep.{with_joints, due_on_three, with_gatherers, with_halves, values_with, values_out}
 use Rattle.three_state.specs.ThreeStep.{three_passes, three_half_due, three_half, three_why_not}
-use Rattle.three_half.specs.declared.HalfEnd.TheVariants.{Taken, Refused}
-use Rattle.three_half.specs.Halves.{HalfReady, half_by, half_outcome, HalfIs, ValuesReady, values_by}
+use Rattle.three_half.specs.declared.Half.{Half}
+use Rattle.three_half.specs.Halves.{HalfReady, half_by, half_of, half_outcome, ValuesReady, values_by}
 use Rattle.three_half.specs.HalvesLaws.{sum-at}
 
 half_at : (c : Channel) (g : Three Gatherer) (p : Three Part) → at c (with_halves g p) ≡ with_half (at c g) (at c p)
@@ -41,13 +42,12 @@ module _ {s : Settings} {t : Scaled} {g : Three Gatherer} {j : Joint} {a : Joint
   st = three_with s g j ws ms
 
   -- for the values, and for the step of them
-  pub values-ready : (halves : Three Gatherer) → halves ≡ with_halves g p → ValuesReady s g halves ws
+  pub values-ready : (halves : Three Gatherer) → halves ≡ with_halves g p → ValuesReady s g halves
   values-ready halves are = record {
     samples-some = omega (arith, pre.valid.settings-valid.samples-valid.0);
     samples-most = pre.valid.settings-valid.samples-valid.1;
     last-le = λ c. (pre.valid.gatherer-valid c).1.1.0;
     half-le = λ c. omega (arith, sum-at pre c, ap (λ (h : Three Gatherer). (at c h).last) are, ap (λ (h : Gatherer). h.last) (half_at c g p));
-    window-long = λ c. (pre.valid.window-valid c).size;
   }
 
   pub ready : (x : Values) → Small3 (sizes_of x) → (j.count ≡ last_value → ⊥) → JointReady s t j ws ms a x
@@ -64,22 +64,19 @@ module _ {s : Settings} {t : Scaled} {g : Three Gatherer} {j : Joint} {a : Joint
 
   module _ (lent : List ℕ) where
     -- a half-cycle that is not taken
-    abbrev NotTaken : ℕ → Type 0
-    NotTaken why = HalfIs s g j a p (Refused why) ws ms lent (half_outcome st p lent)
+    abbrev NotTaken : Stop → Type 0
+    NotTaken stop = half_of s g j a p (Err stop) ws ms lent ≡ half_outcome st p lent
 
-    refused : (y : ℕ) → three_why_not st p (room lent) ≡ suc y → NotTaken (suc y)
+    refused : (y : ℕ) → three_why_not st p (room lent) ≡ suc y → record { after = st; sums = a; written = 0; why = suc y; bytes = lent } ≡ half_outcome st p lent
     unfolding half_outcome
-    refused y why = record {
-      outcome-is =
-          (λ i. record { after = st; sums = pre.sums-are i; written = 0; why = suc y; bytes = lent })
-          ∙ sym (ap (λ (k : ℕ). half_by k st p lent) why);
-      why-said = omega arith;
-    }
+    refused y why =
+        (λ i. record { after = st; sums = pre.sums-are i; written = 0; why = suc y; bytes = lent })
+        ∙ sym (ap (λ (k : ℕ). half_by k st p lent) why)
 
     -- one that is
     abbrev IsTaken : Joint → JointSums → ℕ → Three (List ℕ) → List ℕ → List ℕ → Type 0
     IsTaken j₁ sums written ws₁ ms₁ out =
-        HalfIs s g j a p (Taken (record { joint = j₁; sums = sums; written = written })) ws₁ ms₁ out (half_outcome st p lent)
+        half_of s g j a p (Ok (record { joint = j₁; sums = sums; written = written })) ws₁ ms₁ out ≡ half_outcome st p lent
 
     taken : (j₁ : Joint) (sums : JointSums) (written : ℕ) (ws₁ : Three (List ℕ)) (ms₁ out : List ℕ) → three_why_not st p (room lent) ≡ 0 →
         three_with s (with_halves g p) j₁ ws₁ ms₁ ≡ three_half st p → sums ≡ joint_sums_of ws₁ ms₁ → written ≡ length (three_half_due st p) →
@@ -88,12 +85,8 @@ module _ {s : Settings} {t : Scaled} {g : Three Gatherer} {j : Joint} {a : Joint
     taken j₁ sums written ws₁ ms₁ out why after_is sums-are written_is bytes-are =
         let sums-is : sums ≡ joint_sums_of (windows_in (three_half st p)) (three_half st p).marks =
         sums-are ∙ ap (λ (z : ThreeState). joint_sums_of (windows_in z) z.marks) after_is in
-        record {
-          outcome-is =
-              (λ i. record { after = after_is i; sums = sums-is i; written = written_is i; why = 0; bytes = bytes-are i })
-              ∙ sym (ap (λ (k : ℕ). half_by k st p lent) why);
-          why-said = tt;
-        }
+        (λ i. record { after = after_is i; sums = sums-is i; written = written_is i; why = 0; bytes = bytes-are i })
+        ∙ sym (ap (λ (k : ℕ). half_by k st p lent) why)
 
     -- what V's end and the room tell
     why-is : (past full : Bool) → three_passes st p ≡ past → (room lent <ᵇ length (three_half_due st p)) ≡ full →
@@ -119,7 +112,7 @@ module _ {s : Settings} {t : Scaled} {g : Three Gatherer} {j : Joint} {a : Joint
     -- another one gives a value of each channel
     module _ (whole : g.a.whole ≡ true) where
       -- V is at its end
-      pub end-half : j.count ≡ last_value → NotTaken 2
+      pub end-half : j.count ≡ last_value → NotTaken End
       unfolding three_passes
       end-half c =
           let past : three_passes st p ≡ true =
@@ -149,7 +142,7 @@ module _ {s : Settings} {t : Scaled} {g : Three Gatherer} {j : Joint} {a : Joint
           room-test full e = why-is false full not_end (ap (λ (k : ℕ). room lent <ᵇ k) (sym written_is) ∙ e)
 
           -- its records do not fit
-          pub full-half : room lent < written → NotTaken 1
+          pub full-half : room lent < written → NotTaken Room
           full-half few = refused 0 (room-test true (lt-ltb (room lent) written few))
 
           -- it is taken

@@ -6,10 +6,10 @@ use Rattle.settings.specs.declared.Scaled.{Scaled}
 use Rattle.rms.specs.declared.Gatherer.{Gatherer}
 use Rattle.rms.specs.declared.Part.{Part}
 use Rattle.rms.specs.GatherLaws.{sum-le}
-use Rattle.three_reading.specs.declared.Three.{Three}
-use Rattle.three_reading.specs.Three.{at, Channel}
+use Rattle.three_reading.specs.Three.{Three, Channel, at}
 use Rattle.joint.specs.declared.Joint.{Joint}
 use Rattle.joint.specs.declared.JointSums.{JointSums}
+
 use Rattle.three_half.specs.Halves.{HalfReady, SumsFit}
 
 module _ {s : Settings} {t : Scaled} {g : Three Gatherer} {j : Joint} {a : JointSums} {ws : Three (List ℕ)} {ms : List ℕ} {p : Three Part}

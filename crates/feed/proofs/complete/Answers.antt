@@ -19,7 +19,7 @@ returns-then-not-whole c =
 
 pub returns-then-count-eq-LAST_VALUE : goal.returns-then-count-eq-LAST_VALUE
 returns-then-count-eq-LAST_VALUE c =
-    end-half c.requires c.args.records.now c.if-not-whole.false c.if-count-eq-LAST_VALUE.true c.refused.result c.refused.ensures
+    end-half c.requires c.args.records.now c.if-not-whole.false c.if-count-eq-LAST_VALUE.true
 
 pub newest-near-requires : goal.newest-near-requires
 newest-near-requires c =
@@ -44,7 +44,7 @@ pub returns-then-records-written : goal.returns-then-records-written
 returns-then-records-written c =
     full-half c.requires c.args.records.now c.if-not-whole.false c.if-count-eq-LAST_VALUE.false c.with_half-half.result c.with_half-half.ensures
     c.rms_value.result c.rms_value.ensures.0 c.try_value-tried.result c.try_value-tried.ensures c.count-written.result c.count-written.ensures
-    c.if-records-written.true c.refused-then-records-written.result c.refused-then-records-written.ensures
+    c.if-records-written.true
 
 pub push-requires : goal.push-requires
 push-requires c =
@@ -72,4 +72,4 @@ returns c =
     value.result value.ensures.0 c.try_value-tried.result c.try_value-tried.ensures c.count-written.result c.count-written.ensures
     c.if-records-written.false c.push.new.window c.push_mark.new.marks c.put.new.buffer
     (c.push.ensures ∙ ap (λ (n : ℕ). pushed n v c.args.window.now value.result) n_is)
-    (c.push_mark.ensures ∙ (λ i. pushed (n_is i) v c.args.marks.now (c.flag.ensures i))) c.put.ensures
+    (c.push_mark.ensures ∙ (λ i. pushed (n_is i) v c.args.marks.now (c.from.ensures i))) c.put.ensures

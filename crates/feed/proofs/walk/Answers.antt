@@ -13,8 +13,8 @@ scaled-scaled-requires c = c.requires.settings-valid
 pub sum_of-requires : goal.sum_of-requires
 sum_of-requires c = omega (arith, c.requires.window-valid.size)
 
-pub sum_marks-requires : goal.sum_marks-requires
-sum_marks-requires c = omega (arith, c.requires.marks-valid.size)
+pub sum_of-requires-2 : goal.sum_of-requires-2
+sum_of-requires-2 c = omega (arith, c.requires.marks-valid.size)
 
 pub cut-share-requires : goal.cut-share-requires
 cut-share-requires c = c.requires.gatherer-valid.0
@@ -23,7 +23,7 @@ pub loop-share-init : goal.loop-share-init
 loop-share-init c =
     let a = c.args in
     walk-starts a.settings a.window.now a.marks.now a.block.now a.records.now a.gatherer a.detector c.requires _ c.cut-share.result
-    (λ i. record { values = c.sum_of.ensures i; marks = c.sum_marks.ensures i }) c.cut-share.ensures
+    (λ i. record { values = c.sum_of.ensures i; marks = c.sum_of-2.ensures i }) c.cut-share.ensures
 
 pub overflow_add-end : goal.overflow_add-end
 overflow_add-end c =
@@ -41,8 +41,8 @@ pub slice_bounds-complete-count : goal.slice_bounds-complete-count
 slice_bounds-complete-count c =
     omega (arith, c.loop-share.invariant.fits, c.loop-share.invariant.long)
 
-pub complete-half-requires : goal.complete-half-requires
-complete-half-requires c =
+pub complete-requires : goal.complete-requires
+complete-requires c =
     complete-ready c.loop-share.invariant c.loop-share-test.true c.sum_squares-part.ensures c.scaled-scaled.result c.scaled-scaled.ensures
 
 pub overflow_sub-taken : goal.overflow_sub-taken
@@ -54,19 +54,19 @@ end_walk-requires c =
     let l = c.loop-share in
     (omega (arith, l.invariant.within.fits, l.invariant.samples-most, length-take (l.at + l.share.count - 1 - l.at) (drop l.at c.args.block.now)), l.invariant.sum-le)
 
-pub returns-then-half-gt0 : goal.returns-then-half-gt0
-returns-then-half-gt0 c =
-    walk-stops c.loop-share.invariant c.loop-share-test.true c.sum_squares-part.ensures c.complete-half.ensures c.if-half-gt0.true c.end_walk.result c.end_walk.ensures
+pub returns-in-Err : goal.returns-in-Err
+returns-in-Err c =
+    walk-stops c.loop-share.invariant c.loop-share-test.true c.sum_squares-part.ensures c.in-Err.stop c.in-Err.ensures c.end_walk.result c.end_walk.ensures
 
 pub overflow_add-written : goal.overflow_add-written
 overflow_add-written c =
     let l = c.loop-share in
-    let fits = taken-fits l.invariant c.loop-share-test.true c.sum_squares-part.ensures c.complete-half.ensures (omega (arith, c.if-half-gt0.false)) in
+    let fits = taken-fits l.invariant c.loop-share-test.true c.sum_squares-part.ensures c.in-Ok.half c.in-Ok.ensures in
     omega (arith, fits)
 
-pub cut-share-requires-in-loop-share : goal.cut-share-requires-in-loop-share
-cut-share-requires-in-loop-share c =
-    taken-count c.loop-share.invariant c.loop-share-test.true c.sum_squares-part.ensures c.complete-half.ensures (omega (arith, c.if-half-gt0.false))
+pub cut-share-requires-in-Ok : goal.cut-share-requires-in-Ok
+cut-share-requires-in-Ok c =
+    taken-count c.loop-share.invariant c.loop-share-test.true c.sum_squares-part.ensures c.in-Ok.half c.in-Ok.ensures
 
 pub loop-share-smaller : goal.loop-share-smaller
 loop-share-smaller c =
@@ -76,10 +76,10 @@ loop-share-smaller c =
 pub loop-share-preserved : goal.loop-share-preserved
 loop-share-preserved c =
     let l = c.loop-share in
-    let half = c.complete-half in
+    let half = c.complete in
     let behind = record_length * l.written in
-    walk-turns l.invariant c.loop-share-test.true c.sum_squares-part.ensures half.ensures (omega (arith, c.if-half-gt0.false)) c.cut-share-in-loop-share.result
-    c.cut-share-in-loop-share.ensures (same_len_mid behind (length l.records - behind) l.records half.new.records half.auto.records) half.auto.window half.auto.marks
+    walk-turns l.invariant c.loop-share-test.true c.sum_squares-part.ensures c.in-Ok.half c.in-Ok.ensures c.cut-share-in-Ok.result
+    c.cut-share-in-Ok.ensures (same_len_mid behind (length l.records - behind) l.records half.new.records half.auto.records)
 
 pub end_walk-requires-2 : goal.end_walk-requires-2
 end_walk-requires-2 c =

@@ -1,9 +1,8 @@
 -- The parts that the last triples are go into the gatherers.
 use Rattle.std.proofs.Common.{◌∙◌, ap, arith}
 use Rattle.rms.specs.Gather.{with_part}
-use Rattle.rms.specs.declared.Part.{Part}
-use Rattle.three_reading.specs.declared.Three.{Three}
 use Rattle.three_reading.specs.Three.Channel.{on_a, on_b, on_c}
+use Rattle.rms.specs.declared.Part.{Part}
 use Rattle.three_feed.proofs.EachPart.{part-joins}
 use Rattle.three_feed.proofs.end_walk.Goals as goal
 

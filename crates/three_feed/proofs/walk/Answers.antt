@@ -24,11 +24,11 @@ loop-share-init c =
     let a = c.args in
     walk-starts a.settings (three_of a.a.now a.b.now a.c.now) a.marks.now a.block.now a.records.now a.gatherers a.joint
     c.requires.0 c.requires.1 _ c.cut_of-share.result _
-    (λ i. record { a = c.sum_of.ensures i; b = c.sum_of-2.ensures i; c = c.sum_of-3.ensures i; marks = c.sum_marks.ensures i })
+    (λ i. record { a = c.sum_of.ensures i; b = c.sum_of-2.ensures i; c = c.sum_of-3.ensures i; marks = c.sum_of-4.ensures i })
     c.cut_of-share.ensures (three-long _ refl refl refl)
 
-pub complete-ended-requires : goal.complete-ended-requires
-complete-ended-requires c =
+pub complete-requires : goal.complete-requires
+complete-requires c =
     complete-ready c.loop-share.invariant c.loop-share-test.true c.parts_of-parts.ensures.0 c.scaled-scaled.result c.scaled-scaled.ensures
 
 pub end_walk-requires : goal.end_walk-requires
@@ -38,9 +38,9 @@ end_walk-requires c =
     let long = c.loop-share.invariant.lanes-long in
     (r.0, r.1, p.a ∙ long on_a, p.b ∙ long on_b, p.c ∙ long on_c)
 
-pub returns-in-Refused : goal.returns-in-Refused
-returns-in-Refused c =
-    walk-stops c.loop-share.invariant c.loop-share-test.true c.parts_of-parts.ensures.0 c.complete-ended.ensures _ c.in-Refused.is
+pub returns-in-Err : goal.returns-in-Err
+returns-in-Err c =
+    walk-stops c.loop-share.invariant c.loop-share-test.true c.parts_of-parts.ensures.0 c.in-Err.stop c.in-Err.ensures
     c.end_walk.result c.end_walk.ensures
 
 pub halves_of-g-requires : goal.halves_of-g-requires
@@ -50,21 +50,21 @@ halves_of-g-requires c =
 pub overflow_add-written : goal.overflow_add-written
 overflow_add-written c =
     let fits =
-    taken-fits c.loop-share.invariant c.loop-share-test.true c.parts_of-parts.ensures.0 c.complete-ended.ensures c.in-Taken.is c.halves_of-g.ensures in
-    let h : c.loop-share.written + c.in-Taken.half.written < 2 ^ 64 = omega (arith, fits, c.well_formed) in
+    taken-fits c.loop-share.invariant c.loop-share-test.true c.parts_of-parts.ensures.0 c.in-Ok.ensures c.halves_of-g.ensures in
+    let h : c.loop-share.written + c.in-Ok.half.written < 2 ^ 64 = omega (arith, fits, c.well_formed) in
     record { fits = h }
 
-pub cut_of-share-requires-in-Taken : goal.cut_of-share-requires-in-Taken
-cut_of-share-requires-in-Taken c =
-    taken-count c.loop-share.invariant c.loop-share-test.true c.parts_of-parts.ensures.0 c.complete-ended.ensures c.in-Taken.is c.halves_of-g.ensures
+pub cut_of-share-requires-in-Ok : goal.cut_of-share-requires-in-Ok
+cut_of-share-requires-in-Ok c =
+    taken-count c.loop-share.invariant c.loop-share-test.true c.parts_of-parts.ensures.0 c.in-Ok.ensures c.halves_of-g.ensures
 
 pub loop-share-preserved : goal.loop-share-preserved
 loop-share-preserved c =
     let p = c.parts_of-parts.auto in
     let long = c.loop-share.invariant.lanes-long in
-    walk-turns c.loop-share.invariant c.loop-share-test.true c.parts_of-parts.ensures.0 c.complete-ended.ensures c.in-Taken.is c.halves_of-g.ensures
-    c.cut_of-share-in-Taken.result _ c.cut_of-share-in-Taken.ensures (three-long _ (p.a ∙ long on_a) (p.b ∙ long on_b) (p.c ∙ long on_c))
-    c.complete-ended.auto.records
+    walk-turns c.loop-share.invariant c.loop-share-test.true c.parts_of-parts.ensures.0 c.in-Ok.ensures c.halves_of-g.ensures
+    c.cut_of-share-in-Ok.result _ c.cut_of-share-in-Ok.ensures (three-long _ (p.a ∙ long on_a) (p.b ∙ long on_b) (p.c ∙ long on_c))
+    c.complete.auto.records
 
 pub end_walk-requires-2 : goal.end_walk-requires-2
 end_walk-requires-2 c =

@@ -34,8 +34,7 @@ returns-then-records-written c =
 pub push_values-requires : goal.push_values-requires
 push_values-requires c =
     let n = c.window_length-length.ensures in
-    let long = c.requires.valid.window-valid in
-    (omega (arith, n.1), omega (arith, n.2, (long on_a).size), omega (arith, n.2, (long on_b).size), omega (arith, n.2, (long on_c).size))
+    (omega (arith, n.1), n.2)
 
 pub push_mark-requires : goal.push_mark-requires
 push_mark-requires c =

@@ -13,17 +13,17 @@ small p q r on_c = r
 pub value_of-requires : goal.value_of-requires
 value_of-requires c =
     let ready = c.requires in
-    (ready.samples-some, ready.samples-most, ready.last-le on_a, ready.half-le on_a, ready.window-long on_a)
+    (ready.samples-some, ready.samples-most, ready.last-le on_a, ready.half-le on_a)
 
 pub value_of-requires-2 : goal.value_of-requires-2
 value_of-requires-2 c =
     let ready = c.requires in
-    (ready.samples-some, ready.samples-most, ready.last-le on_b, ready.half-le on_b, ready.window-long on_b)
+    (ready.samples-some, ready.samples-most, ready.last-le on_b, ready.half-le on_b)
 
 pub value_of-requires-3 : goal.value_of-requires-3
 value_of-requires-3 c =
     let ready = c.requires in
-    (ready.samples-some, ready.samples-most, ready.last-le on_c, ready.half-le on_c, ready.window-long on_c)
+    (ready.samples-some, ready.samples-most, ready.last-le on_c, ready.half-le on_c)
 
 pub returns : goal.returns
 returns c =
