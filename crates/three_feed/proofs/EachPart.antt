@@ -3,7 +3,8 @@ use Rattle.std.proofs.Common.{◌≡◌, refl, ◌∙◌, ap, ℕ, ◌+◌, ◌/
 use Rattle.rms.specs.declared.Part.{Part}
 use Rattle.rms.specs.Gather.{part_of, PartFits}
 use Rattle.rms.specs.GatherLaws.{part_of-fits}
-use Rattle.three_reading.specs.Three.{Three, Channel, triples_of, channel, at}
+use Rattle.three_reading.specs.declared.Three.{Three}
+use Rattle.three_reading.specs.Three.{Channel, triples_of, channel, at}
 use Rattle.three_reading.specs.Three.Channel.{on_a, on_b, on_c}
 use Rattle.three_laws.specs.ChannelLaws.{length-channel}
 use Rattle.three_laws.specs.TriplesLaws.{length-triples}

@@ -15,7 +15,8 @@ use Rattle.rms.specs.CutLaws.{Within, cut-within}
 use Rattle.greedy.specs.Greedy.{fed_by}
 use Rattle.greedy.proofs.CutterLaws.{taken-if, feed-taken, feed-stops, feed-rest}
 use Rattle.greedy.proofs.ProgressLaws.{Progress, progress-none, progress-more, progress-last, part-long, lent-behind, back-behind}
-use Rattle.three_reading.specs.Three.{Three, Channel, at, triples_of, channel}
+use Rattle.three_reading.specs.declared.Three.{Three}
+use Rattle.three_reading.specs.Three.{Channel, at, triples_of, channel}
 use Rattle.three_reading.specs.Three.Channel.{on_a, on_b, on_c}
 use Rattle.three_laws.specs.ChannelLaws.{length-channel}
 use Rattle.three_laws.specs.TriplesLaws.{length-triples, triples-drop, triples-part}

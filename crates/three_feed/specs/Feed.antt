@@ -5,7 +5,8 @@ use Rattle.reading.specs.declared.Stop.{Stop}
 use Rattle.reading.specs.Told.{told_in}
 use Rattle.reading.specs.Calls.{Outcome}
 use Rattle.rms.specs.declared.Gatherer.{Gatherer}
-use Rattle.three_reading.specs.Three.{Three, Channel, at}
+use Rattle.three_reading.specs.declared.Three.{Three}
+use Rattle.three_reading.specs.Three.{Channel, at}
 use Rattle.joint.specs.declared.Joint.{Joint}
 use Rattle.three_state.specs.declared.ThreeState.{ThreeState}
 use Rattle.three_state.specs.ThreeState.{three_with}

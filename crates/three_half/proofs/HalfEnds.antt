@@ -16,7 +16,8 @@ use Rattle.rms.specs.declared.Part.{Part}
 use Rattle.rms.specs.Gather.{with_half}
 use Rattle.window.specs.Window.{pushed}
 use Rattle.records.specs.Due.{records_of}
-use Rattle.three_reading.specs.Three.{Three, Channel, at}
+use Rattle.three_reading.specs.declared.Three.{Three}
+use Rattle.three_reading.specs.Three.{Channel, at}
 use Rattle.three_reading.specs.Three.Channel.{on_a, on_b, on_c}
 use Rattle.joint.specs.declared.Joint.{Joint}
 use Rattle.joint.specs.declared.JointSums.{JointSums}

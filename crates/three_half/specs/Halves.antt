@@ -11,7 +11,8 @@ use Rattle.reading.specs.Engineer.{over, room}
 use Rattle.rms.specs.declared.Gatherer.{Gatherer}
 use Rattle.rms.specs.declared.Part.{Part}
 use Rattle.rms.specs.Gather.{PartFits}
-use Rattle.three_reading.specs.Three.{Three, any_of, Channel, at}
+use Rattle.three_reading.specs.declared.Three.{Three}
+use Rattle.three_reading.specs.Three.{any_of, Channel, at}
 use Rattle.three_reading.specs.Three.Channel.{on_a, on_b, on_c}
 use Rattle.joint.specs.declared.Joint.{Joint}
 use Rattle.joint.specs.declared.JointSums.{JointSums}

@@ -6,7 +6,8 @@ use Rattle.settings.specs.declared.Scaled.{Scaled}
 use Rattle.rms.specs.declared.Gatherer.{Gatherer}
 use Rattle.rms.specs.declared.Part.{Part}
 use Rattle.rms.specs.GatherLaws.{sum-le}
-use Rattle.three_reading.specs.Three.{Three, Channel, at}
+use Rattle.three_reading.specs.declared.Three.{Three}
+use Rattle.three_reading.specs.Three.{Channel, at}
 use Rattle.joint.specs.declared.Joint.{Joint}
 use Rattle.joint.specs.declared.JointSums.{JointSums}
 
