@@ -2,7 +2,7 @@
 use Rattle.std.specs.Prelude.{◌≡◌, refl, Bool, true, false, ◌&&◌, List, [], ◌∷◌, ℕ, ◌+◌, ◌-◌, ◌<◌, length, take, drop, ℤ, if◌then◌else◌}
 use Rattle.std.proofs.Common.{◌∙◌, ap, arith}
 use Rattle.numbers.specs.Notation.{◌<ᵇ◌, ◌≡ᵇ◌}
-use Rattle.reading.specs.declared.Told.{Told}
+use Rattle.reading.specs.Told.{Told}
 use Rattle.reading.specs.Feed.{last_value}
 use Rattle.samples.specs.Samples.{samples_of}
 use Rattle.samples.specs.SamplesLaws.{length-samples}

@@ -1,6 +1,6 @@
 -- What feed tells, and triples fed with room for all their records.
 use Rattle.std.specs.Prelude.{List, ℤ}
-use Rattle.reading.specs.declared.Told.{Told}
+use Rattle.reading.specs.Told.{Told}
 use Rattle.greedy.specs.AllFed.{fed_all_by}
 use Rattle.three_reading.specs.declared.Three.{Three}
 use Rattle.three_state.specs.ThreeStep.{three_machine}

@@ -5,7 +5,7 @@ use Rattle.std.proofs.Common.{sym, ◌∙◌, ap, arith, length-drop, length-tak
 use Rattle.numbers.specs.Notation.{◌<ᵇ◌, ◌≡ᵇ◌}
 use Rattle.numbers.specs.Answers.{Answered}
 use Rattle.numbers.specs.Answers.Answered.{accepted, refused}
-use Rattle.reading.specs.declared.Told.{Told}
+use Rattle.reading.specs.Told.{Told}
 use Rattle.reading.specs.Feed.{last_value}
 use Rattle.reading.specs.Calls.{Outcome}
 use Rattle.reading.specs.Layout.{record_length}

@@ -8,7 +8,7 @@ use mathlib.Core.List.{List, [], ◌∷◌}
 use native.Mathlib.Omega.{arith}
 use Rattle.std.proofs.Math.ListN.{length}
 use Rattle.numbers.specs.Notation.{◌<ᵇ◌, ◌≡ᵇ◌}
-use Rattle.reading.specs.declared.Told.{Told}
+use Rattle.reading.specs.Told.{Told}
 use Rattle.reading.specs.Feed.{last_value}
 use Rattle.reading.specs.Calls.{Outcome}
 use Rattle.reading.specs.Engineer.{room}

@@ -6,7 +6,7 @@ use Rattle.std.proofs.Math.Seq.{drop-length}
 use borrow.Rule.Slice.PartMut.{put_mid, Post-is}
 use Rattle.numbers.specs.Notation.{◌≡ᵇ◌}
 use Rattle.reading.specs.declared.Record.{Record}
-use Rattle.reading.specs.declared.Told.{Told}
+use Rattle.reading.specs.Told.{Told}
 use Rattle.reading.specs.Records.{record_bytes}
 use Rattle.reading.specs.Calls.{Outcome}
 use Rattle.reading.specs.Engineer.{over, room}

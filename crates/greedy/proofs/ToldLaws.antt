@@ -4,7 +4,7 @@ use Rattle.std.proofs.Math.Path.{refl, ap}
 use Rattle.std.proofs.Math.Bool.{true, false}
 use mathlib.Core.List.{List, [], ◌∷◌}
 use Rattle.std.proofs.Common.{arith, le-ltb}
-use Rattle.reading.specs.declared.Told.{Told}
+use Rattle.reading.specs.Told.{Told}
 use Rattle.reading.specs.Engineer.{room}
 use Rattle.reading.specs.Layout.{record_length}
 use Rattle.greedy.specs.Greedy.{Machine, Run, fed_by, fed_into}

@@ -9,7 +9,7 @@ use lib.ListN.{length}
 use borrow.Author.Tests.{eq-eqb, ne_eqb, lt-leb, le-leb, lt-ltb, le-ltb}
 use Rattle.numbers.specs.Notation.{◌≡ᵇ◌, refuse◌unless◌then◌}
 use Rattle.numbers.specs.Answers.{Answered}
-use Rattle.reading.specs.declared.Told.{Told}
+use Rattle.reading.specs.Told.{Told}
 use Rattle.reading.specs.Restore.{restore_refusal}
 use Rattle.reading.specs.Calls.{Outcome, Trial, without_logger, Saved, Restoration}
 use Rattle.reading.specs.Engineer.{too_short}

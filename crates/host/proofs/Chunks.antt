@@ -8,7 +8,7 @@ use lib.ListN.{length, take, drop, length-drop, take-append-drop}
 use lib.Seq.{take_at, drop-length}
 use lib.IntN.{ℤ}
 use borrow.Rule.Slice.PartMut.{put_mid}
-use Rattle.reading.specs.declared.Told.{Told}
+use Rattle.reading.specs.Told.{Told}
 use Rattle.reading.specs.Engineer.{room}
 use Rattle.reading.specs.Layout.{record_length}
 use Rattle.samples.specs.Samples.{samples_of}

@@ -4,7 +4,7 @@ use Rattle.octets.specs.Bytes.{row}
 use Rattle.numbers.specs.Notation.{◌≤ᵇ◌, ◌≡ᵇ◌, flag, refuse◌unless◌then◌}
 use Rattle.numbers.specs.Answers.{Answered}
 use Rattle.numbers.specs.Answers.Answered.{accepted, refused}
-use Rattle.reading.specs.declared.Told.{Told}
+use Rattle.reading.specs.Told.{Told}
 use Rattle.reading.specs.Restore.{restore_refusal}
 use Rattle.reading.specs.Calls.{Outcome, Trial}
 use Rattle.reading.specs.Engineer.{over, too_short}

@@ -2,8 +2,8 @@
 -- contract and demand 3 both speak of these.
 use Rattle.std.specs.Prelude.{List, ℕ, ℤ}
 use Rattle.numbers.specs.Answers.{Answered}
-use Rattle.reading.specs.declared.Told.{Told}
-use Rattle.reading.specs.declared.Readings.{Readings}
+use Rattle.reading.specs.Told.{Told}
+use Rattle.reading.specs.Readings.{Readings}
 
 -- what a feed leaves: who was fed, what it tells, and the record buffer
 pub record Outcome (L : Type 0) : Type 0 where

@@ -5,8 +5,8 @@ use Rattle.settings.specs.declared.Settings.{Settings}
 use Rattle.numbers.specs.Notation.{◌<ᵇ◌}
 use Rattle.settings.specs.Settings.{window_length_of}
 use Rattle.reading.specs.declared.Kind.TheVariants.{Dip, Swell, Interruption}
-use Rattle.reading.specs.declared.Told.{Told}
-use Rattle.reading.specs.declared.Readings.{Readings}
+use Rattle.reading.specs.Told.{Told}
+use Rattle.reading.specs.Readings.{Readings}
 use Rattle.reading.specs.Values.{Samples, values}
 use Rattle.reading.specs.Thresholds.{stands_since}
 use Rattle.reading.specs.Changes.{window_sum, signal}

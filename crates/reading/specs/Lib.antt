@@ -7,6 +7,8 @@ pub mod Records
 pub mod Image
 pub mod Restore
 pub mod Feed
+pub mod Told
+pub mod Readings
 pub mod Calls
 pub mod Engineer
 pub mod Bench

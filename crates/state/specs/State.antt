@@ -4,7 +4,7 @@ use Rattle.numbers.specs.Notation.{◌<ᵇ◌, flag}
 use Rattle.numbers.specs.Rules.{Holds}
 use Rattle.settings.specs.declared.Settings.{Settings}
 use Rattle.settings.specs.Settings.{window_length_of, ValidSettings}
-use Rattle.reading.specs.declared.Readings.{Readings}
+use Rattle.reading.specs.Readings.{Readings}
 use Rattle.reading.specs.Values.{values}
 use Rattle.reading.specs.Clipping.{marks_of}
 use Rattle.reading.specs.Changes.{window_sum}

@@ -1,7 +1,7 @@
 -- 02, N2, the calls: what each is given and what it gives back, the lent bytes as it leaves them included, over whatever a three-phase logger is.
 use Rattle.std.specs.Prelude.{List, ℕ, ℤ}
 use Rattle.numbers.specs.Answers.{Answered}
-use Rattle.reading.specs.declared.Told.{Told}
+use Rattle.reading.specs.Told.{Told}
 use Rattle.three_reading.specs.declared.ThreeReadings.{ThreeReadings}
 
 -- what a feed leaves: who was fed, what it tells or its refusal, and the record buffer

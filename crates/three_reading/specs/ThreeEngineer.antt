@@ -5,7 +5,7 @@ use Rattle.settings.specs.declared.Settings.{Settings}
 use Rattle.settings.specs.Settings.{window_length_of}
 use Rattle.numbers.specs.Notation.{◌<ᵇ◌, ◌≡ᵇ◌}
 use Rattle.reading.specs.declared.Kind.TheVariants.{Dip, Swell, Interruption}
-use Rattle.reading.specs.declared.Told.{Told}
+use Rattle.reading.specs.Told.{Told}
 use Rattle.reading.specs.Values.{Samples}
 use Rattle.reading.specs.Changes.{window_sum}
 use Rattle.reading.specs.Records.{record_bytes}

@@ -10,7 +10,7 @@ use Rattle.numbers.specs.NotationLaws.{past-not, flag-back}
 use Rattle.settings.specs.declared.Settings.{Settings}
 use Rattle.settings.specs.Settings.{window_length_of}
 use Rattle.settings.specs.SettingsLaws.{window_length_of-some, window_length_of-most}
-use Rattle.reading.specs.declared.Readings.{Readings}
+use Rattle.reading.specs.Readings.{Readings}
 use Rattle.reading.specs.declared.Kind.TheVariants.{Dip, Swell, Interruption}
 use Rattle.reading.specs.Values.{value_count, history, values}
 use Rattle.reading.specs.Clipping.{value_clipped, marks, marks_of, record_of}
