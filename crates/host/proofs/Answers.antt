@@ -1,14 +1,14 @@
 -- The ways of advance and of try: each refusal leaves every buffer as it was; else they are as feed, the reply and save leave them. And the ways of the count.
-use Rattle.std.specs.Prelude.{if◌then◌else◌}
-use mathlib.Core.Path.{◌≡◌, sym, ◌∙◌, ap}
-use mathlib.Core.Bool.{Bool, true, false, not}
-use mathlib.Core.List.{List}
-use Prim.Native.Nat.{ℕ, zero, suc, ◌%◌, ◌≤◌, ◌<◌}
-use native.Mathlib.Omega.{arith}
-use lib.ListN.{length}
-use borrow.Author.Tests.{eq-eqb, ne_eqb, lt-leb, le-leb, lt-ltb, le-ltb}
+use Rattle.std.specs.Prelude.{◌≡◌, ◌≢◌, if◌then◌else◌, Bool, true, false, not, List, ℕ, zero, suc, ◌%◌, ◌≤◌, ◌<◌, length, Result, Ok, Err}
+use Rattle.std.proofs.Common.{sym, ◌∙◌, ap, arith, eq-eqb, ne_eqb, le-leb, lt-ltb, le-ltb}
+use Rattle.std.proofs.lemmas.Bool.{lt-leb}
 use Rattle.numbers.specs.Notation.{◌≡ᵇ◌, refuse◌unless◌then◌}
-use Rattle.numbers.specs.Answers.{Answered}
+use Rattle.numbers.specs.Answers.{Answered, answered}
+use Rattle.numbers.specs.Answers.Answered.{accepted, refused}
+use Rattle.numbers.specs.AnswersLaws.{accepted-is, refused-is}
+use Rattle.numbers.specs.declared.Refusal.{Refusal}
+use Rattle.numbers.specs.declared.Refusal.TheVariants.{OddSamples, Room, ReplyRoom}
+use Rattle.numbers.specs.Refusals.{number_of, number_in}
 use Rattle.reading.specs.Told.{Told}
 use Rattle.reading.specs.Restore.{restore_refusal}
 use Rattle.reading.specs.Calls.{Outcome, Trial, without_logger, Saved, Restoration}
@@ -18,51 +18,89 @@ use Rattle.samples.specs.Samples.{samples_of}
 use Rattle.state.specs.declared.State.{State}
 use Rattle.state.specs.State.{fresh}
 use Rattle.state.specs.Calls.{fed_with}
-use Rattle.image.specs.declared.Acceptance.{Acceptance}
-use Rattle.image.specs.declared.Acceptance.TheVariants.{Accepted, Refused}
-use Rattle.image.specs.Image.{state_at, save_answer, acceptance_told}
-use Rattle.logger.specs.Logger.{fed_to, saved_to}
-use Rattle.logger.specs.Calls.{logger_calls, spare_settings, Resumes}
+use Rattle.image.specs.Image.{state_at, save_answer}
+use Rattle.logger.specs.declared.Logger.{Logger}
+use Rattle.logger.specs.Logger.{started_told, fed_to, saved_to}
+use Rattle.logger.specs.Calls.{logger_calls, spare_settings, resumed_to}
 use Rattle.logger.proofs.CallsLaws.{restore-accepted, restore-refused}
 use Rattle.day_count.specs.declared.DayCount.{DayCount}
-use Rattle.day_count.specs.declared.Counted.{Counted}
-use Rattle.day_count.specs.declared.Counted.TheVariants.{Day, Refused as NotCounted}
-use Rattle.day_count.specs.Days.{day_counted, counted_told}
+use Rattle.day_count.specs.Days.{day_counted}
 use Rattle.host.specs.Host.{block_refusal, reply_refusal, advance_refusal, try_refusal}
 use Rattle.host.specs.Host.{replied, advanced_to, advanced_by, advanced, block_tried_to, block_tried_by, block_tried}
 use Rattle.host.specs.Host.{CountedDay, day_replied, counted_to, counted_by, counted}
 
--- what the answer to an image tells of it
-module _ {image : List ℕ} {st : State} {told : Acceptance} (resumes : Resumes image st told) where
-  told_is : (logger_calls.restore (fresh spare_settings) image).answer ≡ acceptance_told told
-  told_is = sym (ap (λ (r : Restoration State). r.answer) resumes.restored)
+-- an answer that refuses
+refused-by : {A : Type 0} (n : ℕ) (a : A) → 0 < n → refused n ≡ answered n a
+refused-by zero a some = absurd (omega arith)
+refused-by (suc n) a some = refl
 
-  refused-with : (n : ℕ) → told ≡ Refused n → (restore_refusal image ≡ n) × (0 < n)
-  refused-with n e = restore-refused (fresh spare_settings) image n (told_is ∙ ap acceptance_told e)
+-- what advance and try begin with, before the rest
+module _ (image samples : List ℕ) where
+  abbrev goes : ℕ → Bool → Bool → ℕ → ℕ
+  goes r good even rest = refuse r unless good then refuse 12 unless even then rest
 
-  accepted-as : told ≡ Accepted → (restore_refusal image ≡ 0) × (st ≡ state_at image)
-  accepted-as e =
-      let read = restore-accepted (fresh spare_settings) image (told_is ∙ ap acceptance_told e) in
-      (read.0, ap (λ (r : Restoration State). r.after) resumes.restored ∙ read.1)
+  abbrev even : Bool
+  even = length samples % 2 ≡ᵇ 0
 
--- what advance and try begin with
-module _ (image samples : List ℕ) (rest : ℕ) where
-  abbrev goes : ℕ → Bool → Bool → ℕ
-  goes r good even = refuse r unless good then refuse 12 unless even then rest
+  first-image : (n : ℕ) → (restore_refusal image ≡ n) × (0 < n) → (rest : ℕ) → block_refusal image samples rest ≡ n
+  first-image n p rest = ap (λ (t : Bool). goes (restore_refusal image) t even rest) (ne_eqb (restore_refusal image) 0 (λ z. omega (arith, p.0, p.1))) ∙ p.0
 
-  first-image : (n : ℕ) → (restore_refusal image ≡ n) × (0 < n) → block_refusal image samples rest ≡ n
-  first-image n p =
-      ap (λ (t : Bool). goes (restore_refusal image) t (length samples % 2 ≡ᵇ 0)) (ne_eqb (restore_refusal image) 0 (λ z. omega (arith, p.0, p.1))) ∙ p.0
+  good-image : restore_refusal image ≡ 0 → (rest : ℕ) → block_refusal image samples rest ≡ goes 0 true even rest
+  good-image good rest = ap (λ (r : ℕ). goes r (r ≡ᵇ 0) even rest) good
 
-  module _ (good : restore_refusal image ≡ 0) where
-    good-image : block_refusal image samples rest ≡ goes 0 true (length samples % 2 ≡ᵇ 0)
-    good-image = ap (λ (r : ℕ). goes r (r ≡ᵇ 0) (length samples % 2 ≡ᵇ 0)) good
+  -- the logger of an image, and the answer of `resume_for`
+  abbrev Resumed : Result Logger Refusal → Type 0
+  Resumed r = resumed_to r ≡ logger_calls.restore (fresh spare_settings) image
 
-    then-odd : (length samples % 2 ≡ 0 → ⊥) → block_refusal image samples rest ≡ 12
-    then-odd odd = good-image ∙ ap (goes 0 true) (ne_eqb (length samples % 2) 0 odd)
+  abbrev pub ResumedFor : Result Logger Refusal → Type 0
+  ResumedFor r = started_told r ≡ answered (block_refusal image samples 0) (state_at image)
 
-    then-rest : length samples % 2 ≡ 0 → block_refusal image samples rest ≡ rest
-    then-rest even = good-image ∙ ap (goes 0 true) (eq-eqb (length samples % 2) 0 even)
+  pub image-refused : (r : Refusal) → Resumed (Err r) → ResumedFor (Err r)
+  image-refused r e =
+      let p = restore-refused (fresh spare_settings) image (number_of r) (sym (ap (λ (k : Restoration State). k.answer) e)) in
+      refused-by (number_of r) (state_at image) p.1 ∙ ap (λ (n : ℕ). answered n (state_at image)) (sym (first-image (number_of r) p 0))
+
+  module _ (l : Logger) (e : Resumed (Ok l)) where
+    read : (restore_refusal image ≡ 0) × (l.state ≡ state_at image)
+    read =
+        let r = restore-accepted (fresh spare_settings) image (sym (ap (λ (k : Restoration State). k.answer) e)) in
+        (r.0, ap (λ (k : Restoration State). k.after) e ∙ r.1)
+
+    pub odd-refused : length samples % 2 ≢ 0 → ResumedFor (Err OddSamples)
+    odd-refused odd =
+        sym (ap (λ (n : ℕ). answered n (state_at image)) (good-image read.0 0 ∙ ap (λ (t : Bool). goes 0 true t 0) (ne_eqb (length samples % 2) 0 odd)))
+
+    pub good-resumed : length samples % 2 ≡ 0 → ResumedFor (Ok l)
+    good-resumed none =
+        ap accepted read.1
+        ∙ sym (ap (λ (n : ℕ). answered n (state_at image)) (good-image read.0 0 ∙ ap (λ (t : Bool). goes 0 true t 0) (eq-eqb (length samples % 2) 0 none)))
+
+  -- what it tells of the whole answer
+  first-stays : (n : ℕ) → block_refusal image samples 0 ≡ n → 0 < n → (rest : ℕ) → block_refusal image samples rest ≡ n
+  first-stays n e some rest = go (restore_refusal image ≡ᵇ 0) even e
+    where
+      go : (good even : Bool) → goes (restore_refusal image) good even 0 ≡ n → goes (restore_refusal image) good even rest ≡ n
+      go false even e = e
+      go true false e = e
+      go true true e = absurd (omega arith)
+
+  first-passes : block_refusal image samples 0 ≡ 0 → (rest : ℕ) → block_refusal image samples rest ≡ rest
+  first-passes e rest = go (restore_refusal image ≡ᵇ 0) refl even e
+    where
+      go : (good : Bool) → (restore_refusal image ≡ᵇ 0) ≡ good → (even : Bool) → goes (restore_refusal image) good even 0 ≡ 0 → goes (restore_refusal image) good even rest ≡ rest
+      go false not_good even e = let z : false ≡ true = sym not_good ∙ eq-eqb (restore_refusal image) 0 e in let y : ◌≡◌ {A = ℕ} 0 1 = cc in absurd (omega arith)
+      go true good false e = absurd (omega arith)
+      go true good true e = refl
+
+  refused-for : (r : Refusal) → ResumedFor (Err r) → (rest : ℕ) → (block_refusal image samples rest ≡ number_of r) × (0 < number_of r)
+  refused-for r e rest =
+      let p = refused-is (block_refusal image samples 0) (number_of r) (state_at image) (sym e) in
+      (first-stays (number_of r) p.0 p.1 rest, p.1)
+
+  resumed-for : (l : Logger) → ResumedFor (Ok l) → ((rest : ℕ) → block_refusal image samples rest ≡ rest) × (l.state ≡ state_at image)
+  resumed-for l e =
+      let p = accepted-is (block_refusal image samples 0) (state_at image) l.state (sym e) in
+      (first-passes p.0, sym p.1)
 
 -- and end with
 module _ (reply : List ℕ) where
@@ -88,44 +126,36 @@ module _ (image samples next records reply : List ℕ) where
   advance-refused zero some e = absurd (omega arith)
   advance-refused (suc n) some e = sym (ap (λ (m : ℕ). advanced_by m fed next records reply) e)
 
-  module _ {st : State} {told : Acceptance} (resumes : Resumes image st told) where
-    pub image-refused : (n : ℕ) → told ≡ Refused n → AdvanceIs n
-    image-refused n e = let p = refused-with resumes n e in advance-refused n p.1 (first-image image samples (next_refusal (too_short next)) n p)
+  pub not-resumed : (r : Refusal) → ResumedFor image samples (Err r) → AdvanceIs (number_of r)
+  not-resumed r e = let p = refused-for image samples r e (next_refusal (too_short next)) in advance-refused (number_of r) p.1 p.0
 
-    module _ (accepts : told ≡ Accepted) where
-      read : (restore_refusal image ≡ 0) × (st ≡ state_at image)
-      read = accepted-as resumes accepts
+  module _ (l : Logger) (is : ResumedFor image samples (Ok l)) where
+    next-or : (short : Bool) → too_short next ≡ short → advance_refusal image samples next reply ≡ next_refusal short
+    next-or short e = (resumed-for image samples l is).0 (next_refusal (too_short next)) ∙ ap next_refusal e
 
-      pub odd_refused : (length samples % 2 ≡ 0 → ⊥) → AdvanceIs 12
-      odd_refused odd = advance-refused 12 (omega arith) (then-odd image samples (next_refusal (too_short next)) read.0 odd)
+    pub next-refused : length next < image_length → AdvanceIs 7
+    next-refused short = advance-refused 7 (omega arith) (next-or true (lt-ltb (length next) image_length short))
 
-      module _ (even : length samples % 2 ≡ 0) where
-        next-or : (short : Bool) → too_short next ≡ short → advance_refusal image samples next reply ≡ next_refusal short
-        next-or short e = then-rest image samples (next_refusal (too_short next)) read.0 even ∙ ap next_refusal e
+    module _ (long : image_length ≤ length next) where
+      fits : too_short next ≡ false
+      fits = le-ltb (length next) image_length long
 
-        pub next-refused : length next < image_length → AdvanceIs 7
-        next-refused short = advance-refused 7 (omega arith) (next-or true (lt-ltb (length next) image_length short))
+      pub reply-refused : length reply < reply_length → AdvanceIs 13
+      reply-refused short = advance-refused 13 (omega arith) (next-or false fits ∙ last-reply reply short)
 
-        module _ (long : image_length ≤ length next) where
-          fits : too_short next ≡ false
-          fits = le-ltb (length next) image_length long
-
-          pub reply-refused : length reply < reply_length → AdvanceIs 13
-          reply-refused short = advance-refused 13 (omega arith) (next-or false fits ∙ last-reply reply short)
-
-          -- no refusal: the buffers are those of feed, the reply and save
-          pub all_done : reply_length ≤ length reply → (after : State) (told : Told) (out replied₁ saved : List ℕ) (number : ℕ) →
-              fed_to after told out ≡ logger_calls.feed st (samples_of samples) records → replied₁ ≡ replied told reply →
-              saved_to number saved ≡ logger_calls.save after next → advanced_to number saved out replied₁ ≡ advanced image samples next records reply
-          unfolding advanced save_answer
-          all_done full after told out replied₁ saved number feeds replies saves =
-              let none : advance_refusal image samples next reply ≡ 0 = next-or false fits ∙ last_none reply full in
-              let f : fed_to after told out ≡ fed = feeds ∙ ap (λ (st : State). fed_with st (samples_of samples) records) read.1 in
-              let n : number ≡ 0 = ap (λ (r : Saved). r.number) saves ∙ ap (λ (t : Bool). if t then 7 else 0) fits in
-              let s : saved ≡ (logger_calls.save after next).bytes = ap (λ (r : Saved). r.bytes) saves in
-              (λ i. advanced_to (n i) (s i) out (replies i))
-              ∙ (λ i. advanced_by 0 (f i) next records reply)
-              ∙ sym (ap (λ (m : ℕ). advanced_by m fed next records reply) none)
+      -- no refusal: the buffers are those of feed, the reply and save
+      pub all_done : reply_length ≤ length reply → (after : State) (told : Told) (out replied₁ saved : List ℕ) (number : ℕ) →
+          fed_to after told out ≡ logger_calls.feed l.state (samples_of samples) records → replied₁ ≡ replied told reply →
+          saved_to number saved ≡ logger_calls.save after next → advanced_to number saved out replied₁ ≡ advanced image samples next records reply
+      unfolding advanced save_answer
+      all_done full after told out replied₁ saved number feeds replies saves =
+          let none : advance_refusal image samples next reply ≡ 0 = next-or false fits ∙ last_none reply full in
+          let f : fed_to after told out ≡ fed = feeds ∙ ap (λ (st : State). fed_with st (samples_of samples) records) (resumed-for image samples l is).1 in
+          let n : number ≡ 0 = ap (λ (r : Saved). r.number) saves ∙ ap (λ (t : Bool). if t then 7 else 0) fits in
+          let s : saved ≡ (logger_calls.save after next).bytes = ap (λ (r : Saved). r.bytes) saves in
+          (λ i. advanced_to (n i) (s i) out (replies i))
+          ∙ (λ i. advanced_by 0 (f i) next records reply)
+          ∙ sym (ap (λ (m : ℕ). advanced_by m fed next records reply) none)
 
 -- each way out of try
 module _ (image samples scratch reply : List ℕ) where
@@ -140,52 +170,43 @@ module _ (image samples scratch reply : List ℕ) where
   try-refused zero some e = absurd (omega arith)
   try-refused (suc n) some e = sym (ap (λ (m : ℕ). block_tried_by m trial scratch reply) e)
 
-  module _ {st : State} {told : Acceptance} (resumes : Resumes image st told) where
-    pub try-image-refused : (n : ℕ) → told ≡ Refused n → TryIs n
-    try-image-refused n e = let p = refused-with resumes n e in try-refused n p.1 (first-image image samples (reply_refusal reply) n p)
+  pub try-not-resumed : (r : Refusal) → ResumedFor image samples (Err r) → TryIs (number_of r)
+  try-not-resumed r e = let p = refused-for image samples r e (reply_refusal reply) in try-refused (number_of r) p.1 p.0
 
-    module _ (accepts : told ≡ Accepted) where
-      pub try-odd-refused : (length samples % 2 ≡ 0 → ⊥) → TryIs 12
-      try-odd-refused odd = try-refused 12 (omega arith) (then-odd image samples (reply_refusal reply) (accepted-as resumes accepts).0 odd)
+  module _ (l : Logger) (is : ResumedFor image samples (Ok l)) where
+    reply-next : try_refusal image samples reply ≡ reply_refusal reply
+    reply-next = (resumed-for image samples l is).0 (reply_refusal reply)
 
-      module _ (even : length samples % 2 ≡ 0) where
-        reply-next : try_refusal image samples reply ≡ reply_refusal reply
-        reply-next = then-rest image samples (reply_refusal reply) (accepted-as resumes accepts).0 even
+    pub try-reply-refused : length reply < reply_length → TryIs 13
+    try-reply-refused short = try-refused 13 (omega arith) (reply-next ∙ last-reply reply short)
 
-        pub try-reply-refused : length reply < reply_length → TryIs 13
-        try-reply-refused short = try-refused 13 (omega arith) (reply-next ∙ last-reply reply short)
-
-        -- no refusal: the buffers are those of the trial and the reply
-        pub try-done : reply_length ≤ length reply → (after : State) (told : Told) (out replied₁ : List ℕ) →
-            fed_to after told out ≡ logger_calls.feed st (samples_of samples) scratch → replied₁ ≡ replied told reply →
-            block_tried_to 0 out replied₁ ≡ block_tried image samples scratch reply
-        unfolding block_tried
-        try-done full after told out replied₁ feeds replies =
-            let f : fed_to after told out ≡ fed_with (state_at image) (samples_of samples) scratch =
-            feeds ∙ ap (λ (st : State). fed_with st (samples_of samples) scratch) (accepted-as resumes accepts).1 in
-            (λ i. block_tried_to 0 out (replies i))
-            ∙ (λ i. block_tried_by 0 (without_logger (f i)) scratch reply)
-            ∙ sym (ap (λ (m : ℕ). block_tried_by m trial scratch reply) (reply-next ∙ last_none reply full))
+    -- no refusal: the buffers are those of the trial and the reply
+    pub try-done : reply_length ≤ length reply → (after : State) (told : Told) (out replied₁ : List ℕ) →
+        fed_to after told out ≡ logger_calls.feed l.state (samples_of samples) scratch → replied₁ ≡ replied told reply →
+        block_tried_to 0 out replied₁ ≡ block_tried image samples scratch reply
+    unfolding block_tried
+    try-done full after told out replied₁ feeds replies =
+        let f : fed_to after told out ≡ fed_with (state_at image) (samples_of samples) scratch =
+        feeds ∙ ap (λ (st : State). fed_with st (samples_of samples) scratch) (resumed-for image samples l is).1 in
+        (λ i. block_tried_to 0 out (replies i))
+        ∙ (λ i. block_tried_by 0 (without_logger (f i)) scratch reply)
+        ∙ sym (ap (λ (m : ℕ). block_tried_by m trial scratch reply) (reply-next ∙ last_none reply full))
 
 -- each way out of the count
 module _ (settings records : List ℕ) (z : ℕ) (above : Bool) (day : ℕ) (reply : List ℕ) where
   abbrev CountIs : CountedDay → Type 0
   CountIs left = left ≡ counted settings records z above day reply
 
-  module _ (told : Counted) (is : counted_told told ≡ day_counted settings records z above day) where
-    answer-is : (other : Counted) → told ≡ other → CountIs (counted_by (counted_told other) reply)
-    unfolding counted
-    answer-is other e = ap (λ (t : Counted). counted_by (counted_told t) reply) (sym e) ∙ ap (λ (a : Answered DayCount). counted_by a reply) is
+  pub counts : (told : Answered DayCount) → told ≡ day_counted settings records z above day → CountIs (counted_by told reply)
+  unfolding counted
+  counts told is = ap (λ (a : Answered DayCount). counted_by a reply) is
 
-    pub count-refused : (n : ℕ) → told ≡ NotCounted n → CountIs (counted_to n reply)
-    count-refused n e = answer-is (NotCounted n) e
+  module _ (d : DayCount) (is : accepted d ≡ day_counted settings records z above day) where
+    abbrev leaves : Bool → CountedDay
+    leaves long = if long then counted_to 0 (day_replied d reply) else counted_to 13 reply
 
-    module _ (d : DayCount) (e : told ≡ Day d) where
-      abbrev leaves : Bool → CountedDay
-      leaves long = if long then counted_to 0 (day_replied d reply) else counted_to 13 reply
+    pub day-refused : length reply < day_reply_length → CountIs (counted_to 13 reply)
+    day-refused short = sym (ap leaves (lt-leb day_reply_length (length reply) short)) ∙ counts (accepted d) is
 
-      pub day-refused : length reply < day_reply_length → CountIs (counted_to 13 reply)
-      day-refused short = sym (ap leaves (lt-leb day_reply_length (length reply) short)) ∙ answer-is (Day d) e
-
-      pub day-told : day_reply_length ≤ length reply → (after : List ℕ) → after ≡ day_replied d reply → CountIs (counted_to 0 after)
-      day-told long after replies = ap (counted_to 0) replies ∙ sym (ap leaves (le-leb day_reply_length (length reply) long)) ∙ answer-is (Day d) e
+    pub day-told : day_reply_length ≤ length reply → (after : List ℕ) → after ≡ day_replied d reply → CountIs (counted_to 0 after)
+    day-told long after replies = ap (counted_to 0) replies ∙ sym (ap leaves (le-leb day_reply_length (length reply) long)) ∙ counts (accepted d) is
