@@ -1,12 +1,11 @@
 // A record in bytes, and the records due at one value.
 #![tactic(auto)]
 
-ghost use Rattle.std.specs.Prelude.{◌≡◌, [], ◌∷◌, ◌+◌, ◌*◌, ◌≤◌, length};
+ghost use Rattle.std.specs.Prelude.{◌≡◌, [], ◌∷◌, ◌*◌, ◌≤◌, length};
 ghost use Rattle.reading.specs.Records.{record_bytes, event_of};
 ghost use Rattle.reading.specs.Engineer.{over};
 ghost use Rattle.reading.specs.Layout.{record_length};
-ghost use Rattle.threshold.specs.Standing.{list_of};
-ghost use Rattle.records.specs.Due.{records_of, placed};
+ghost use Rattle.records.specs.Due.{records_of, places_of};
 
 use reading::{Event, Record};
 
@@ -24,23 +23,22 @@ pub struct Due {
     pub change: Option<Record>,
 }
 
-// Writes a record into its part of a buffer.
+// Writes a record into its part of a buffer. A part and no `&mut [u8; 28]`, here and below: callers cut it from a buffer, and an array out of a slice may fail.
 pub fn put_record(part: &mut [u8], record: Record)
     requires { length part.old ≡ record_length }
     ensures { part.new ≡ record_bytes («record» ∷ []) }
 {
     let event = record.event;
-    let widths = WIDTHS;
     let numbers = [
-        event.kind as u64,
-        numbers::flag(record.clipped) as u64,
+        u64::from(event.kind),
+        u64::from(record.clipped),
         0,
         event.start,
         event.duration,
         event.first,
         event.second,
     ];
-    octets::put_row(part, &widths, &numbers);
+    octets::put_row(part, &WIDTHS, &numbers);
 }
 
 // The event of a record.
@@ -48,9 +46,8 @@ pub fn get_record(bytes: &[u8]) -> Event
     requires { length bytes.now ≡ record_length }
     ensures { result ≡ event_of bytes.now }
 {
-    let widths = WIDTHS;
     let mut numbers = [0u64; 7];
-    octets::get_row(bytes, &widths, &mut numbers);
+    octets::get_row(bytes, &WIDTHS, &mut numbers);
     Event {
         kind: numbers[0] as u8,
         start: numbers[3],
@@ -60,40 +57,23 @@ pub fn get_record(bytes: &[u8]) -> Event
     }
 }
 
-// Writes the record of an event that is over, if one is, from a place of a buffer on; the place after it.
-fn put_ended(ended: Option<Record>, buffer: &mut [u8], at: usize) -> usize
-    requires { at + record_length * length (list_of ended) ≤ length buffer.old }
-    ensures { (result ≡ at + record_length * length (list_of ended)) × (buffer.new ≡ placed at (record_bytes (list_of ended)) buffer.old) }
-{
-    match ended {
-        None => at,
-        Some(record) => {
-            let end = at + RECORD_LENGTH;
-            put_record(&mut buffer[at..end], record);
-            end
-        }
-    }
-}
-
-fn count_of(ended: Option<Record>) -> usize
-    ensures { (result ≡ length (list_of ended)) × (result ≤ 1) }
-{
-    match ended {
-        None => 0,
-        Some(_) => 1,
-    }
-}
-
 impl Due {
+    // Each in its place, in the order of their kinds.
+    fn places(self) -> [Option<Record>; 4]
+        ensures { result ≡ places_of self }
+    {
+        [self.dip, self.swell, self.interruption, self.change]
+    }
+
     // How many there are.
     pub fn count(self) -> usize
         ensures { result ≡ length (records_of self) }
     {
-        let dip = self.dip;
-        let swell = self.swell;
-        let interruption = self.interruption;
-        let change = self.change;
-        count_of(dip) + count_of(swell) + count_of(interruption) + count_of(change)
+        let mut count = 0;
+        for ended in self.places() {
+            count += usize::from(ended.is_some());
+        }
+        count
     }
 
     // Writes their records, by kind, at the front of a buffer. With most values there are none.
@@ -104,13 +84,13 @@ impl Due {
         if self.count() == 0 {
             return;
         }
-        let dip = self.dip;
-        let swell = self.swell;
-        let interruption = self.interruption;
-        let change = self.change;
-        let after_dip = put_ended(dip, buffer, 0);
-        let after_swell = put_ended(swell, buffer, after_dip);
-        let after_interruption = put_ended(interruption, buffer, after_swell);
-        put_ended(change, buffer, after_interruption);
+        let mut at = 0;
+        for place in self.places() {
+            if let Some(record) = place {
+                let end = at + RECORD_LENGTH;
+                put_record(&mut buffer[at..end], record);
+                at = end;
+            }
+        }
     }
 }
