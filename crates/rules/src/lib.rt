@@ -9,6 +9,7 @@ ghost use Rattle.reading.specs.Restore.{value_most, gatherer_rule, whole_rule, p
 ghost use Rattle.reading.specs.Restore.{standing_rule, events_rule};
 
 use reading::LAST_VALUE;
+use window::Place;
 
 // The greatest square of a sample, 2^30.
 const SQUARE_MOST: u64 = 1_073_741_824;
@@ -20,136 +21,73 @@ const VALUE_MOST: u64 = 524_288;
 fn zero_where(absent: bool, number: u64) -> bool
     ensures { result ≡ (not absent || number ≡ᵇ 0) }
 {
-    if absent {
-        return number == 0;
-    }
-    true
+    !absent || number == 0
 }
 
 // A clipping mark: 0 or 1, and 0 where what it marks is not there.
 fn mark_good(absent: bool, mark: u64) -> bool
     ensures { result ≡ (mark ≤ᵇ 1 && (not absent || mark ≡ᵇ 0)) }
 {
-    if 1 < mark {
-        return false;
-    }
-    zero_where(absent, mark)
+    mark <= 1 && zero_where(absent, mark)
 }
 
 // Body 2.
-pub fn gatherer_good(samples: u32, numbers: &[u64]) -> bool
-    requires { length numbers.now ≡ 6 }
+pub fn gatherer_good(samples: u32, numbers: &[u64; 6]) -> bool
     ensures { result ≡ passes (gatherer_rule samples numbers.now) }
 {
-    let most = samples as u64;
-    let count = numbers[0];
-    let last = numbers[2];
-    let whole = numbers[3];
-    if most <= count {
-        return false;
-    }
-    if count * SQUARE_MOST < numbers[1] {
-        return false;
-    }
-    if most * SQUARE_MOST < last {
-        return false;
-    }
-    if 1 < whole {
-        return false;
-    }
-    if !zero_where(whole == 0, last) {
-        return false;
-    }
-    if !mark_good(count == 0, numbers[4]) {
-        return false;
-    }
-    mark_good(whole == 0, numbers[5])
+    let most = u64::from(samples);
+    let [count, sum, last, whole, mark, last_mark] = *numbers;
+    count < most
+        && sum <= count * SQUARE_MOST
+        && last <= most * SQUARE_MOST
+        && whole <= 1
+        && zero_where(whole == 0, last)
+        && mark_good(count == 0, mark)
+        && mark_good(whole == 0, last_mark)
 }
 
 // Body 3.
-fn all_up_to(places: &[u32], most: u32) -> bool
-    ensures { result ≡ passes (all_up_to most places.now) }
-{
-    window::all_between(places, 0, most)
-}
-
-// How many places of the window are used.
-fn used(count: u64, window_length: u64) -> usize
-    requires { window_length ≤ 120 }
-    ensures { (result ≡ min count window_length) × (result ≤ 120) }
-{
-    if count <= window_length {
-        count as usize
-    } else {
-        window_length as usize
-    }
-}
-
-fn places_good(window: &[u32], count: u64, window_length: u64) -> bool
-    requires { (window_length ≤ 120) × (length window.now ≡ 120) }
-    ensures { result ≡ passes (places_rule value_most window_length count window.now) }
-{
-    if !all_up_to(window, VALUE_MOST as u32) {
-        return false;
-    }
-    let first_unused = used(count, window_length);
-    all_up_to(&window[first_unused..], 0)
-}
-
-// Whether every mark is at most a bound.
-fn marks_up_to(marks: &[u8], most: u8) -> bool
-    ensures { result ≡ passes (all_up_to most marks.now) }
+// Whether every place is at most a bound. All are tested, without a way out, so that the loop runs in lanes.
+fn all_up_to<T: Place>(places: &[T], most: u32) -> bool
+    ensures { result ≡ passes (all_up_to most (T.numbers places.now)) }
 {
     let mut above = false;
-    let mut i: usize = 0;
-    while i < marks.len() {
-        above = above | (most < marks[i]);
-        i += 1;
+    for place in places {
+        above |= most < place.number();
     }
     !above
 }
 
-fn marks_good(marks: &[u8], count: u64, window_length: u64) -> bool
-    requires { (window_length ≤ 120) × (length marks.now ≡ 120) }
-    ensures { result ≡ passes (places_rule 1 window_length count marks.now) }
+// Values or marks, up to a bound, with 0 in the places that are not used yet.
+fn places_good<T: Place>(places: &[T], most: u32, count: u64, window_length: u64) -> bool
+    requires { (window_length ≤ 120) × (length places.now ≡ 120) }
+    ensures { result ≡ passes (places_rule most window_length count (T.numbers places.now)) }
 {
-    if !marks_up_to(marks, 1) {
-        return false;
-    }
-    let first_unused = used(count, window_length);
-    marks_up_to(&marks[first_unused..], 0)
+    let first_unused = count.min(window_length) as usize;
+    all_up_to(places, most) && all_up_to(&places[first_unused..], 0)
 }
 
 // Without a whole half-cycle there is no value.
 fn whole_good(whole: bool, count: u64) -> bool
     ensures { result ≡ passes (whole_rule (flag whole) count) }
 {
-    if whole {
-        return true;
-    }
-    count == 0
+    whole || count == 0
 }
 
 pub fn values_good(
-    window: &[u32],
-    marks: &[u8],
+    window: &[u32; 120],
+    marks: &[u8; 120],
     count: u64,
     window_length: u64,
     whole: bool,
 ) -> bool
-    requires { (window_length ≤ 120) × (length window.now ≡ 120) × (length marks.now ≡ 120) }
+    requires { window_length ≤ 120 }
     ensures { result ≡ passes (values_rule window_length (flag whole) (count ∷ (window.now ++ marks.now))) }
 {
-    if LAST_VALUE < count {
-        return false;
-    }
-    if !whole_good(whole, count) {
-        return false;
-    }
-    if !places_good(window, count, window_length) {
-        return false;
-    }
-    marks_good(marks, count, window_length)
+    count <= LAST_VALUE
+        && whole_good(whole, count)
+        && places_good(window, VALUE_MOST as u32, count, window_length)
+        && places_good(marks, 1, count, window_length)
 }
 
 // Body 4.
@@ -165,110 +103,59 @@ fn is_early(start: u64, window_length: u64, count: u64) -> bool
 fn stand_good(start: u64, stand: u64, count: u64) -> bool
     ensures { result ≡ passes (stand_rule count start stand) }
 {
-    if stand == 0 {
-        return true;
-    }
-    start <= stand && stand <= count
+    stand == 0 || start <= stand && stand <= count
 }
 
-fn change_good(numbers: &[u64], mark: u64, window_length: u64, count: u64) -> bool
-    requires { (length numbers.now ≡ 4) × (window_length ≤ 120) }
+fn change_good(numbers: &[u64; 4], mark: u64, window_length: u64, count: u64) -> bool
+    requires { window_length ≤ 120 }
     ensures { result ≡ passes (change_rule window_length count numbers.now mark) }
 {
-    let start = numbers[0];
-    let difference = numbers[2];
-    let stand = numbers[3];
-    if start <= window_length {
-        return false;
-    }
-    if count < start {
-        return false;
-    }
-    if window_length * VALUE_MOST < numbers[1] {
-        return false;
-    }
-    if window_length * VALUE_MOST < difference {
+    let [start, sum, difference, stand] = *numbers;
+    if start <= window_length || count < start {
         return false;
     }
     let early = is_early(start, window_length, count);
-    if !zero_where(early, difference) {
-        return false;
-    }
-    if !stand_good(start, stand, count) {
-        return false;
-    }
-    mark_good(early, mark)
+    sum <= window_length * VALUE_MOST
+        && difference <= window_length * VALUE_MOST
+        && zero_where(early, difference)
+        && stand_good(start, stand, count)
+        && mark_good(early, mark)
 }
 
-fn change_zero(numbers: &[u64], mark: u64) -> bool
-    requires { length numbers.now ≡ 4 }
+fn change_zero(numbers: &[u64; 4], mark: u64) -> bool
     ensures { result ≡ passes (all_zero numbers.now and mark ≡ʳ 0) }
 {
-    if numbers[0] != 0 {
-        return false;
-    }
-    if numbers[1] != 0 {
-        return false;
-    }
-    if numbers[2] != 0 {
-        return false;
-    }
-    if numbers[3] != 0 {
-        return false;
-    }
-    mark == 0
+    *numbers == [0; 4] && mark == 0
 }
 
-fn phase_good(numbers: &[u64], mark: u64, window_length: u64, count: u64) -> bool
-    requires { (length numbers.now ≡ 15) × (window_length ≤ 120) }
+fn phase_good(numbers: &[u64; 15], mark: u64, window_length: u64, count: u64) -> bool
+    requires { window_length ≤ 120 }
     ensures { result ≡ passes (phase_rule window_length count numbers.now mark) }
 {
-    let phase = numbers[0];
-    if 3 < phase {
-        return false;
+    let change = [numbers[1], numbers[2], numbers[3], numbers[4]];
+    match numbers[0] {
+        0 => count < window_length && change_zero(&change, mark),
+        1 | 2 => window_length <= count && change_zero(&change, mark),
+        3 => window_length <= count && change_good(&change, mark, window_length, count),
+        _ => false,
     }
-    if phase == 0 {
-        if window_length <= count {
-            return false;
-        }
-        return change_zero(&numbers[1..5], mark);
-    }
-    if count < window_length {
-        return false;
-    }
-    if phase == 3 {
-        return change_good(&numbers[1..5], mark, window_length, count);
-    }
-    change_zero(&numbers[1..5], mark)
 }
 
 fn standing_good(start: u64, magnitude: u64, mark: u64, count: u64) -> bool
     ensures { result ≡ passes (standing_rule count start magnitude mark) }
 {
-    if count < start {
-        return false;
-    }
-    if VALUE_MOST < magnitude {
-        return false;
-    }
-    if !zero_where(start == 0, magnitude) {
-        return false;
-    }
-    mark_good(start == 0, mark)
+    start <= count
+        && magnitude <= VALUE_MOST
+        && zero_where(start == 0, magnitude)
+        && mark_good(start == 0, mark)
 }
 
-pub fn events_good(numbers: &[u64], window_length: u64, count: u64) -> bool
-    requires { (length numbers.now ≡ 15) × (window_length ≤ 120) }
+pub fn events_good(numbers: &[u64; 15], window_length: u64, count: u64) -> bool
+    requires { window_length ≤ 120 }
     ensures { result ≡ passes (events_rule window_length count numbers.now) }
 {
-    if !phase_good(numbers, numbers[14], window_length, count) {
-        return false;
-    }
-    if !standing_good(numbers[5], numbers[6], numbers[11], count) {
-        return false;
-    }
-    if !standing_good(numbers[7], numbers[8], numbers[12], count) {
-        return false;
-    }
-    standing_good(numbers[9], numbers[10], numbers[13], count)
+    phase_good(numbers, numbers[14], window_length, count)
+        && standing_good(numbers[5], numbers[6], numbers[11], count)
+        && standing_good(numbers[7], numbers[8], numbers[12], count)
+        && standing_good(numbers[9], numbers[10], numbers[13], count)
 }
