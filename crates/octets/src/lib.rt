@@ -9,14 +9,9 @@ pub fn number(bytes: &[u8]) -> u64
     requires { length bytes.now ≤ 8 }
     ensures { result ≡ number_of bytes.now }
 {
-    let mut x: u64 = 0;
-    let mut i = bytes.len();
-    while 0 < i {
-        i -= 1;
-        let byte = bytes[i] as u64;
-        x = x * 256 + byte;
-    }
-    x
+    let mut whole = [0; 8];
+    whole[..bytes.len()].copy_from_slice(bytes);
+    u64::from_le_bytes(whole)
 }
 
 // The number of 2 bytes at an offset.
@@ -24,7 +19,7 @@ pub fn get_u16(bytes: &[u8], offset: usize) -> u16
     requires { offset + 2 ≤ length bytes.now }
     ensures { result ≡ number_of (take 2 (drop offset bytes.now)) }
 {
-    number(&bytes[offset..offset + 2]) as u16
+    u16::from_le_bytes([bytes[offset], bytes[offset + 1]])
 }
 
 // Writes a number into a part, as many of its bytes as the part has.
@@ -32,11 +27,9 @@ pub fn put_number(part: &mut [u8], x: u64)
     ensures { part.new ≡ bytes_of (length part.old) x }
 {
     let mut rest = x;
-    let mut i = 0;
-    while i < part.len() {
-        part[i] = (rest % 256) as u8;
-        rest = rest / 256;
-        i += 1;
+    for byte in part.iter_mut() {
+        *byte = (rest % 256) as u8;
+        rest /= 256;
     }
 }
 
@@ -45,25 +38,19 @@ pub fn copy(part: &mut [u8], bytes: &[u8])
     requires { length part.old ≡ length bytes.now }
     ensures { part.new ≡ bytes.now }
 {
-    let mut i = 0;
-    while i < bytes.len() {
-        part[i] = bytes[i];
-        i += 1;
-    }
+    part.copy_from_slice(bytes);
 }
 
-// Reads a row of numbers, each of at most 8 bytes.
+// Reads a row of numbers, each of at most 8 bytes. By place: after a `zip` with what `iter_mut` lends, nothing is known of the numbers.
 pub fn get_row(bytes: &[u8], widths: &[u8], numbers: &mut [u64])
     requires { (length numbers.old ≡ length widths.now) × (length bytes.now ≡ total widths.now) × Narrow widths.now }
     ensures { numbers.new ≡ numbers_in widths.now bytes.now }
 {
-    let mut at: usize = 0;
-    let mut k = 0;
-    while k < numbers.len() {
-        let end = at + widths[k] as usize;
-        numbers[k] = number(&bytes[at..end]);
-        at = end;
-        k += 1;
+    let mut rest = bytes;
+    for (k, width) in widths.iter().enumerate() {
+        let (front, back) = rest.split_at(usize::from(*width));
+        numbers[k] = number(front);
+        rest = back;
     }
 }
 
@@ -73,39 +60,30 @@ pub fn put_row(part: &mut [u8], widths: &[u8], numbers: &[u64])
     ensures { part.new ≡ row widths.now numbers.now }
 {
     let mut at: usize = 0;
-    let mut k = 0;
-    while k < numbers.len() {
-        let end = at + widths[k] as usize;
+    for (k, width) in widths.iter().enumerate() {
+        let end = at + usize::from(*width);
         put_number(&mut part[at..end], numbers[k]);
         at = end;
-        k += 1;
     }
 }
 
-// Reads numbers of 4 bytes each, as many as there are places for them.
+// Reads numbers of 4 bytes each, as many as there are places for them. No row: that would want a list of widths as long as the numbers, and places of 64 bits.
 pub fn get_words(bytes: &[u8], places: &mut [u32])
     requires { length bytes.now ≡ 4 * length places.old }
     ensures { places.new ≡ numbers_in (fours places.old) bytes.now }
 {
-    let mut k = 0;
-    while k < places.len() {
-        let start = 4 * k;
-        let end = start + 4;
-        places[k] = number(&bytes[start..end]) as u32;
-        k += 1;
+    let (words, _) = bytes.as_chunks::<4>();
+    for (k, word) in words.iter().enumerate() {
+        places[k] = u32::from_le_bytes(*word);
     }
 }
 
-// Writes numbers of 4 bytes each.
+// Writes numbers of 4 bytes each. By place: after `chunks_exact_mut`, nothing is known of the bytes.
 pub fn put_words(part: &mut [u8], numbers: &[u32])
     requires { length part.old ≡ 4 * length numbers.now }
     ensures { part.new ≡ row (fours numbers.now) numbers.now }
 {
-    let mut k = 0;
-    while k < numbers.len() {
-        let start = 4 * k;
-        let end = start + 4;
-        put_number(&mut part[start..end], numbers[k] as u64);
-        k += 1;
+    for (k, number) in numbers.iter().enumerate() {
+        part[4 * k..4 * k + 4].copy_from_slice(&number.to_le_bytes());
     }
 }
