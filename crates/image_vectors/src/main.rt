@@ -2,14 +2,23 @@
 // (outside/image_vectors.py).
 #![tactic(auto)]
 
-ghost use Rattle.std.specs.Prelude.{◌≡◌, ◌≤◌, length};
-ghost use Rattle.reading.specs.Layout.{image_length};
-
 use bodies::IMAGE_LENGTH;
 use detection::Detector;
 use rms::Gatherer;
 use settings::Settings;
 use state::State;
+
+// Some bytes more than an image has, since a vector may make it longer.
+const ROOM: usize = IMAGE_LENGTH + 20;
+
+// A vector: the image's length, an offset, how many bytes change there (128 more where further changes follow), each of 2 bytes, low byte first, and up to 8
+// bytes.
+const VECTOR: usize = 14;
+
+const CHANGES_AT: usize = 6;
+
+// The vectors that are tried, at most.
+const VECTORS: u32 = 100_000;
 
 // A state to restore from: restore asks nothing of it.
 fn blank() -> State {
@@ -33,72 +42,48 @@ fn blank() -> State {
     }
 }
 
-fn refusal(bytes: &[u8]) -> u64 {
-    let restored = image::restore(blank(), bytes);
-    let answer = restored.answer;
-    answer.number() as u64
-}
-
 // The number of the first `length` bytes, or of all.
-fn refusal_of(image: &[u8], length: usize) -> u64 {
-    if length <= image.len() {
-        return refusal(&image[0..length]);
-    }
-    refusal(image)
+fn refusal_of(image: &[u8; ROOM], length: usize) -> u32 {
+    let restored = image::restore(blank(), &image[..length.min(ROOM)]);
+    numbers::answer_number(restored.answer)
 }
 
-// One byte, where the image reaches so far.
-fn put_byte(image: &mut [u8], at: usize, byte: u8)
-    ensures { length image.new ≡ length image.old }
-{
-    if at < image.len() {
-        image[at] = byte;
+// Writes bytes at an offset, as far as the image reaches.
+fn change(image: &mut [u8], offset: usize, bytes: &[u8]) {
+    for (place, byte) in image.iter_mut().skip(offset).zip(bytes) {
+        *place = *byte;
     }
 }
 
-// Writes the first bytes at an offset.
-fn change(image: &mut [u8], offset: usize, width: usize, bytes: &[u8])
-    requires { (offset ≤ 65535) × (width ≤ length bytes.now) × (length bytes.now ≤ image_length) }
-{
-    let mut i = 0;
-    while i < width {
-        put_byte(image, offset + i, bytes[i]);
-        i += 1;
-    }
-}
-
-fn print(rt: HostRuntime, number: u64) {
-    call_items::print_decimal(rt, number);
-    call_items::end_line(rt);
-}
-
-// One vector: the image's length, an offset, how many bytes change there (128 more where further changes follow), and up to 8 bytes.
-fn try_vector(rt: HostRuntime, good: &[u8], image: &mut [u8], vector: &[u8])
-    requires { (length good.now ≡ image_length) × (length vector.now ≡ 14) }
-{
-    let length = octets::get_u16(vector, 0) as usize;
-    let offset = octets::get_u16(vector, 2) as usize;
-    let width = octets::get_u16(vector, 4) as usize;
-    change(image, offset, width % 16 % 9, &vector[6..14]);
+fn try_vector(
+    rt: HostRuntime,
+    good: &[u8; IMAGE_LENGTH],
+    image: &mut [u8; ROOM],
+    vector: &[u8; VECTOR],
+) {
+    let length = usize::from(octets::get_u16(vector, 0));
+    let offset = usize::from(octets::get_u16(vector, 2));
+    let width = usize::from(octets::get_u16(vector, 4));
+    let end = CHANGES_AT + width % 16 % 9;
+    change(image, offset, &vector[CHANGES_AT..end]);
     if width < 128 {
-        print(rt, refusal_of(image, length));
-        change(image, 0, IMAGE_LENGTH, good);
+        let number = refusal_of(image, length);
+        call_items::print(rt, format_args!("{number}\n"));
+        change(image, 0, good);
     }
 }
 
 fn main(rt: HostRuntime) {
     let mut good = [0u8; IMAGE_LENGTH];
     streams::read_full(&mut rt.stdin(), &mut good);
-    let mut image = [0u8; IMAGE_LENGTH + 20];
-    change(&mut image, 0, IMAGE_LENGTH, &good);
-    let mut vector = [0u8; 14];
-    let mut left: u32 = 100_000;
-    while 0 < left {
+    let mut image = [0u8; ROOM];
+    change(&mut image, 0, &good);
+    let mut vector = [0u8; VECTOR];
+    for _ in 0..VECTORS {
         let got = streams::read_full(&mut rt.stdin(), &mut vector);
-        if got.count < 14 {
+        if got.count < VECTOR {
             return;
         }
         try_vector(rt, &good, &mut image, &vector);
-        left -= 1;
     }
 }

@@ -1,6 +1,6 @@
 -- One byte more.
 use Rattle.std.proofs.Common.{arith}
-use Rattle.call_items.specs.ItemsLaws.{hex-one}
+use Rattle.call_items.proofs.Hex.{hex-one}
 use Rattle.call_items.proofs.put_hex.Goals as goal
 
 pub loop-i-preserved : goal.loop-i-preserved

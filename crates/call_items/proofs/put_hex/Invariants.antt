@@ -1,6 +1,6 @@
 -- The first i bytes are put.
 use Rattle.std.proofs.Common.{◌-◌, ◌≤◌, length}
-use Rattle.call_items.specs.ItemsLaws.{HexSoFar}
+use Rattle.call_items.proofs.Hex.{HexSoFar}
 use Rattle.call_items.proofs.put_hex.Given as goal
 
 abbrev pub invariant-loop-i : goal.invariant-loop-i

@@ -1,5 +1,0 @@
--- Vectors are counted down.
-use Rattle.image_vectors.proofs.main.Given as goal
-
-abbrev pub decreases-loop-left : goal.decreases-loop-left
-decreases-loop-left l = l.left
