@@ -190,7 +190,7 @@ pub fn print_number(rt: HostRuntime, word: &str, number: u32) {
 
 // Prints what feed tells, or a trial: a word and three numbers.
 pub fn print_told(rt: HostRuntime, word: &str, told: Told) {
-    let why = told.why_number();
+    let why = told.why;
     print(
         rt,
         format_args!("{word} {} {} {why}", told.taken, told.written),

@@ -1,14 +1,10 @@
--- The gatherer is valid. The measure: the samples left.
-use Rattle.std.proofs.Common.{◌-◌, ◌≤◌, length}
+-- The gatherer is valid, and has ended no more half-cycles than there were samples.
+use Rattle.std.proofs.Common.{◌≤◌}
 use Rattle.rms.specs.Gather.{ValidGatherer}
 use Rattle.call_lists.proofs.gather_samples.Given as goal
 
-abbrev pub invariant-loop-i : goal.invariant-loop-i
-invariant-loop-i l = record {
+abbrev pub invariant-loop-sample : goal.invariant-loop-sample
+invariant-loop-sample l = record {
   valid : ValidGatherer l.half_length l.gatherer;
-  inside : l.i ≤ length l.samples;
-  ended : l.halves ≤ l.i;
+  ended : l.halves ≤ l.sample-index;
 }
-
-abbrev pub decreases-loop-i : goal.decreases-loop-i
-decreases-loop-i l = length l.samples - l.i
