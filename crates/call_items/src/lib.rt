@@ -15,7 +15,7 @@ ghost use Rattle.std.specs.Prelude.{◌≡◌, ◌++◌, ◌*◌, ◌≤◌, ◌
 ghost use Rattle.call_items.specs.Items.{kind_of, NextItem, digit_of, hex_of};
 
 use numbers::Refusal;
-use reading::Told;
+use reading::{PhaseKind, Told};
 use std::fmt::{self, Write};
 
 const HEAD: usize = 6;
@@ -190,7 +190,7 @@ pub fn print_number(rt: HostRuntime, word: &str, number: u32) {
 
 // Prints what feed tells, or a trial: a word and three numbers.
 pub fn print_told(rt: HostRuntime, word: &str, told: Told) {
-    let why = told.why;
+    let why = told.why_number();
     print(
         rt,
         format_args!("{word} {} {} {why}", told.taken, told.written),
@@ -198,7 +198,14 @@ pub fn print_told(rt: HostRuntime, word: &str, told: Told) {
 }
 
 // Prints the end of look's line: the phase, and the events that stand.
-pub fn print_standing(rt: HostRuntime, phase: u8, dip: bool, swell: bool, interruption: bool) {
+pub fn print_standing(
+    rt: HostRuntime,
+    phase: PhaseKind,
+    dip: bool,
+    swell: bool,
+    interruption: bool,
+) {
+    let phase = phase.number();
     let dip = u8::from(dip);
     let swell = u8::from(swell);
     let interruption = u8::from(interruption);

@@ -139,7 +139,9 @@ impl Calls {
         let answer = self.logger.save(image);
         call_items::print_number(rt, "save", numbers::answer_number(answer));
         call_items::print_bytes(rt, image);
-        if answer.is_ok() && let Some(saved) = image.first_chunk() {
+        if answer.is_ok()
+            && let Some(saved) = image.first_chunk()
+        {
             self.saves.keep(saved);
         }
     }
