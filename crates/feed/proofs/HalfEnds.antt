@@ -1,4 +1,4 @@
--- The end of a half-cycle, `complete`: what it hands to the step of one value, and its ways out. The first half-cycle gives no value; V may be at its end, the
+-- The end of a half-cycle, `complete`: its ways out. The first half-cycle gives no value; V may be at its end, the
 -- records may not fit; else it is taken.
 use Rattle.std.specs.Prelude.{if◌then◌else◌, Ok, Err}
 use mathlib.Core.Path.{◌≡◌, refl, sym, ◌∙◌, ap}
@@ -28,7 +28,7 @@ use Rattle.window.specs.Window.{pushed}
 use Rattle.records.specs.Due.{records_of}
 use Rattle.detection.specs.declared.Detector.{Detector}
 use Rattle.detection.specs.declared.Tried.{Tried}
-use Rattle.detection.specs.Detection.{sums_of, tried_by, due_at, TryReady}
+use Rattle.detection.specs.Detection.{sums_of, tried_by, due_at}
 use Rattle.state.specs.declared.State.{State}
 use Rattle.state.specs.State.{state_with}
 use Rattle.state.specs.Step.{with_values, due_on, with_gatherer, value_out, passes_end, half_due, half_joined, why_not}
@@ -38,21 +38,6 @@ use Rattle.feed.specs.Feed.{HalfReady, half_by, half_outcome, half_of}
 module _ {s : Settings} {t : Scaled} {g : Gatherer} {d : Detector} {a : Sums} {w ms : List ℕ} {p : Part} (pre : HalfReady s t g d a w ms p) where
   abbrev st : State
   st = state_with s g d w ms
-
-  -- for the step of one value
-  pub ready : (x : Marked) → x.value ≤ 524288 → (d.count ≡ last_value → ⊥) → TryReady s t d w ms a x
-  ready x small more = record {
-    settings-valid = pre.valid.settings-valid;
-    scaled-is = pre.scaled-is;
-    window-ready = record {
-      window-valid = pre.valid.window-valid;
-      marks-valid = pre.valid.marks-valid;
-      sums-are = pre.sums-are;
-      value-le = small;
-    };
-    detector-valid = pre.valid.detector-valid;
-    count-lt = omega (arith, more, pre.valid.count-le);
-  }
 
   module _ (lent : List ℕ) where
     -- a half-cycle that is not taken

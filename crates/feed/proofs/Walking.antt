@@ -10,8 +10,6 @@ use lib.IntN.{ℤ}
 use borrow.Rule.Slice.PartMut.{put_mid}
 use Rattle.std.specs.Prelude.{Option, Some, None, Result, Ok, Err}
 use Rattle.settings.specs.declared.Settings.{Settings}
-use Rattle.settings.specs.declared.Scaled.{Scaled}
-use Rattle.settings.specs.Settings.{scaled_of}
 use Rattle.reading.specs.declared.Stop.{Stop}
 use Rattle.reading.specs.declared.Stop.TheVariants.{Room, End}
 use Rattle.reading.specs.Told.{stop_number, why_number, told_in}
@@ -37,7 +35,7 @@ use Rattle.state.proofs.StepValid.{half_joined-valid, part_joined-valid}
 use Rattle.state.specs.Calls.{fed_with}
 use Rattle.feed.specs.declared.Half.{Half}
 use Rattle.feed.specs.declared.Walked.{Walked}
-use Rattle.feed.specs.Feed.{HalfReady, HalfOutcome, half_by, half_outcome, half_of, walked_of, walked_with}
+use Rattle.feed.specs.Feed.{HalfOutcome, half_by, half_outcome, half_of, walked_of, walked_with}
 
 -- a part of a block, as the code takes it
 part-of : (at n k : ℕ) (block : List ℤ) → k ≡ n → part_of (take k (drop at block)) ≡ part_of (take n (drop at block))
@@ -142,11 +140,8 @@ module _ {s : Settings} {w₀ ms₀ : List ℕ} {block : List ℤ} {lent : List 
     abbrev p : Part
     p = part_of (take n rest)
 
-    pub share-some : 0 < n
+    share-some : 0 < n
     share-some = inv.within.some completes
-
-    pub half-few : length (take (at + n - at) rest) ≤ 256
-    half-few = omega (arith, ap (λ (q : Part). q.count) (part-of at n (at + n - at) block (omega arith)), part-long at n block inv.share_in, inv.within.fits, inv.samples-most)
 
     module _ {q : Part} (q-of : (q ≡ part_of (take (at + n - at) rest)) × (q.squares ≤ q.count * 2 ^ 30)) where
       q-is : q ≡ p
@@ -156,12 +151,6 @@ module _ {s : Settings} {w₀ ms₀ : List ℕ} {block : List ℤ} {lent : List 
       p-fits =
           let bound : p.squares ≤ p.count * 2 ^ 30 = omega (arith, q-of.1, ap (λ (k : Part). k.squares) q-is, ap (λ (k : Part). k.count) q-is) in
           part_of-fits s.samples g (take n rest) bound (omega (arith, part-long at n block inv.share_in, inv.within.fits))
-
-      q-fits : PartFits s.samples g q
-      q-fits = subst (PartFits s.samples g) (sym q-is) p-fits
-
-      pub complete-ready : (t : Scaled) → t ≡ scaled_of s → HalfReady s t g d sums w ms q
-      complete-ready t scaled-is = record { valid = inv.so_far.valid; scaled-is = scaled-is; sums-are = inv.sums-are; part-fits = q-fits }
 
       -- what `complete` gave, on the buffer behind the records written before
       abbrev Gives : Result Half Stop → List ℕ → List ℕ → List ℕ → Type 0

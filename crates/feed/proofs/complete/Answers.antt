@@ -1,17 +1,12 @@
--- The step of one value is asked for with `ready`; each way out is a law of HalfEnds.
+-- Each way out is a law of HalfEnds.
 use mathlib.Core.Path.{◌∙◌, ap}
 use Prim.Native.Nat.{ℕ}
 use native.Mathlib.Omega.{arith}
 use Rattle.rms.specs.declared.Gatherer.{Gatherer}
 use Rattle.window.specs.declared.Sums.{Sums}
 use Rattle.window.specs.Window.{pushed}
-use Rattle.feed.proofs.HalfEnds.{ready, first-half, end-half, full-half, taken-half}
+use Rattle.feed.proofs.HalfEnds.{first-half, end-half, full-half, taken-half}
 use Rattle.feed.proofs.complete.Goals as goal
-
-pub with_half-half-requires : goal.with_half-half-requires
-with_half-half-requires c =
-    let v = c.requires.valid in
-    omega (arith, v.gatherer-valid.1.0, c.requires.part-fits, v.settings-valid.samples-valid.1)
 
 pub returns-then-not-whole : goal.returns-then-not-whole
 returns-then-not-whole c =
@@ -21,47 +16,11 @@ pub returns-then-count-eq-LAST_VALUE : goal.returns-then-count-eq-LAST_VALUE
 returns-then-count-eq-LAST_VALUE c =
     end-half c.requires c.args.records.now c.if-not-whole.false c.if-count-eq-LAST_VALUE.true
 
-pub newest-near-requires : goal.newest-near-requires
-newest-near-requires c =
-    let n = c.window_length-window_length.ensures in
-    (omega (arith, n.1), omega (arith, n.2, c.requires.valid.window-valid.size))
-
-pub rms_value-requires : goal.rms_value-requires
-rms_value-requires c =
-    let last_is = ap (λ (g : Gatherer). g.last) c.with_half-half.ensures in
-    let v = c.requires.valid in (
-      omega (arith, v.settings-valid.samples-valid.0),
-      omega (arith, v.settings-valid.samples-valid.1),
-      v.gatherer-valid.1.1.0,
-      omega (arith, last_is, v.gatherer-valid.1.0, v.gatherer-valid.0, c.requires.part-fits),
-    )
-
-pub try_value-tried-requires : goal.try_value-tried-requires
-try_value-tried-requires c =
-    ready c.requires _ c.rms_value.ensures.1 c.if-count-eq-LAST_VALUE.false
-
 pub returns-then-records-written : goal.returns-then-records-written
 returns-then-records-written c =
     full-half c.requires c.args.records.now c.if-not-whole.false c.if-count-eq-LAST_VALUE.false c.with_half-half.result c.with_half-half.ensures
     c.rms_value.result c.rms_value.ensures.0 c.try_value-tried.result c.try_value-tried.ensures c.count-written.result c.count-written.ensures
     c.if-records-written.true
-
-pub push-requires : goal.push-requires
-push-requires c =
-    let n = c.window_length-window_length.ensures in
-    (omega (arith, n.1), omega (arith, n.2, c.requires.valid.window-valid.size))
-
-pub push_mark-requires : goal.push_mark-requires
-push_mark-requires c =
-    let n = c.window_length-window_length.ensures in (
-      omega (arith, n.1),
-      omega (arith, n.2, c.requires.valid.marks-valid.size),
-      ap (λ (k : Sums). k.marks) c.requires.sums-are,
-    )
-
-pub put-requires : goal.put-requires
-put-requires c =
-    omega (arith, c.count-written.ensures, c.if-records-written.false)
 
 pub returns : goal.returns
 returns c =
