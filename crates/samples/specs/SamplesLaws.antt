@@ -1,20 +1,21 @@
 -- The laws of samples in bytes.
-use Rattle.std.specs.Prelude.{◌≡◌, refl, List, [], ◌∷◌, ◌++◌, ℕ, zero, suc, ◌-◌, ◌*◌, ◌/◌, ◌≤◌, ◌<◌, ◌^◌, ℤ, length, take, drop}
-use Rattle.std.proofs.Common.{sym, ◌∙◌, ap, arith, take-append-drop, take_at, drop_at, length-take-le, lt-ltb, le-ltb, to_z}
+use Rattle.std.specs.Prelude.{Bool, true, false, ltb, pos, negsuc, if◌then◌else◌, ◌≡◌, refl, List, [], ◌∷◌, ◌++◌, ℕ, zero, suc, ◌-◌, ◌*◌, ◌/◌, ◌≤◌, ◌<◌, ◌^◌, ℤ, length, take, drop}
+use Rattle.std.proofs.Common.{sym, ◌∙◌, ap, arith, take-append-drop, take_at, drop_at, length-take-le, to_z}
+use Rattle.std.proofs.lemmas.Bool.{ltb-true, ltb-false}
 use Rattle.std.specs.Int.{w16}
 use Rattle.std.proofs.Math.Facts.{to_z_pos, to_z-neg}
 use Rattle.samples.specs.Samples.{signed, sample_of, samples_of}
 
--- a number of 16 bits as the code makes it signed, below 32,768 and from there on
-pub signed_low : (n : ℕ) → n < 32768 → to_z w16 n ≡ signed n
+-- a number of 16 bits read as signed, below 32,768 and from there on
+pub signed_is : (n : ℕ) → n < 65536 → to_z w16 n ≡ signed n
 unfolding signed
-signed_low n h = to_z_pos w16 h ∙ rw (lt-ltb n 32768 h)
-
-pub signed_high : (n : ℕ) → 32768 ≤ n → n < 65536 → to_z w16 (65535 - (65535 - n)) ≡ signed n
-unfolding signed
-signed_high n h l =
-    let e : 65535 - (65535 - n) ≡ 2 ^ 16 - suc (65535 - n) = omega arith in
-    ap (to_z w16) e ∙ to_z-neg w16 (65535 - n) (omega arith) ∙ rw (le-ltb n 32768 h)
+signed_is n h = by_half (ltb n 32768) refl where
+  by_half : (low : Bool) → ltb n 32768 ≡ low → to_z w16 n ≡ if low then pos n else negsuc (65535 - n)
+  by_half true e = to_z_pos w16 (ltb-true n 32768 e)
+  by_half false e =
+      let high : 32768 ≤ n = ltb-false n 32768 e in
+      let is : n ≡ 2 ^ 16 - suc (65535 - n) = omega arith in
+      ap (to_z w16) is ∙ to_z-neg w16 (65535 - n) (omega arith)
 
 -- whole samples in front stand in front
 pub samples_of-append : (k : ℕ) (a b : List ℕ) → length a ≡ 2 * k → samples_of (a ++ b) ≡ samples_of a ++ samples_of b

@@ -1,51 +1,33 @@
-use mathlib.Core.Path.{◌≡◌, refl, ◌∙◌}
-use mathlib.Core.List.{List, ◌∷◌, ◌++◌, append_assoc, append-nil}
-use Prim.Native.Nat.{ℕ, suc, ◌+◌, ◌*◌, ◌<◌}
+use Rattle.std.proofs.Common.{◌≡◌, ◌∙◌, ap, sym, arith, ℕ, List, [], ◌∷◌, append-nil, ◌+◌, ◌/◌, ◌<◌, length, take, drop, map, get_or, drop_of_length-le, ℤ, to_z, of_z, w16}
+use Rattle.std.proofs.Math.Seq.{drop-cons, take_all}
+use Rattle.std.specs.Simd.{first_chunks}
 use native.Mathlib.Numerals.{add-one}
-use native.Mathlib.Omega.{arith}
-use lib.IntN.{ℤ}
-use lib.ListN.{length, take, drop, set, get_or, length-set, drop_of_length-le}
-use lib.Seq.{drop-cons, take_all, take-suc-set}
-use mir.Syntax.{w16}
-use mir.Val.{to_z, of_z}
-use mir.ValLaws.{to_z-of_z}
-use Rattle.samples.specs.Samples.{sample_of, samples_of}
+use Rattle.std.proofs.lemmas.Int.{to_z-of_z}
+use Rattle.samples.proofs.Pairs.{sample_is, byte_in, sample_in, samples_of-pairs, one_more}
 use Rattle.samples.proofs.decode.Goals as goal
-
-module _ (k : ℕ) (out : List ℤ) (b : List ℕ) where
-  -- the samples of what is left: that of two bytes, and those after them
-  left : 2 * k + 1 < length b → samples_of (drop (2 * k) b) ≡ sample_of (get_or b (2 * k) 0) (get_or b (2 * k + 1) 0) ∷ samples_of (drop (2 * (k + 1)) b)
-  unfolding samples_of
-  left h =
-      let e : suc (2 * k) ≡ 2 * k + 1 = omega arith in
-      let f : suc (2 * k + 1) ≡ 2 * (k + 1) = omega arith in
-      rw (drop-cons b (2 * k) 0 (omega arith), e, drop-cons b (2 * k + 1) 0 h, f)
-
-  -- one sample more, and none left
-  decodes : {t : List ℤ} {x : ℤ} → k < length out → 2 * k + 1 < length b → x ≡ sample_of (get_or b (2 * k) 0) (get_or b (2 * k + 1) 0)
-      → take k out ++ samples_of (drop (2 * k) b) ≡ t → take (k + 1) (set out k x) ++ samples_of (drop (2 * (k + 1)) b) ≡ t
-  decodes {x = x} h l e inv = rw (add-one k, take-suc-set out k x h, append_assoc, ← add-one k) (rw (left l, ← e) at inv)
-
-  decoded : {t : List ℤ} → k ≡ length out → length b ≡ 2 * k → take k out ++ samples_of (drop (2 * k) b) ≡ t → out ≡ t
-  unfolding samples_of
-  decoded h l inv = rw (drop_of_length-le b {i = 2 * k} (omega arith), append-nil, take_all k out (omega arith)) at inv
-
-pub loop-k-init : goal.loop-k-init
-loop-k-init c = (omega arith, refl, refl)
-
-pub loop-k-smaller : goal.loop-k-smaller
-loop-k-smaller c = omega arith
 
 pub loop-k-preserved : goal.loop-k-preserved
 loop-k-preserved c =
     let l = c.loop-k in
-    let a = c.args in
-    let x : to_z w16 (of_z w16 c.sample.result) ≡ sample_of (get_or a.bytes.now (2 * l.k) 0) (get_or a.bytes.now (2 * l.k + 1) 0) =
-    to_z-of_z w16 c.sample.result (record { sfits = c.sample.type_inv }) ∙ c.sample.ensures in
-    (omega arith, simp length-set (omega arith), decodes l.k l.places a.bytes.now (omega arith) (omega arith) x l.invariant.2)
+    let pairs : List (List ℕ) = c.as_chunks.result.0.now in
+    let m = length c.args.bytes.now / 2 in
+    let each : (j : ℕ) → get_or c.args.bytes.now j 0 < 256 = λ j. (c.type_inv.bytes j).fits in
+    let x : ℤ = to_z w16 (of_z w16 c.from_le_bytes.result) in
+    let is : x ≡ sample_in (get_or pairs l.k []) =
+    to_z-of_z w16 c.from_le_bytes.result (record { sfits = c.from_le_bytes.type_inv })
+    ∙ c.from_le_bytes.ensures
+    ∙ sample_is _ _ (rw c.as_chunks.ensures.front (byte_in m l.k 0 c.args.bytes.now each)) (rw c.as_chunks.ensures.front (byte_in m l.k 1 c.args.bytes.now each)) in
+    let next : map sample_in (drop l.k pairs) ≡ x ∷ map sample_in (drop (l.k + 1) pairs) = rw (is, add-one, drop-cons pairs l.k [] (omega arith)) in
+    one_more l.k l.places _ _ x (omega arith) (rw next at l.invariant)
 
 pub returns : goal.returns
 returns c =
     let l = c.loop-k in
-    let a = c.args in
-    decoded l.k l.places a.bytes.now (omega arith) (omega arith) l.invariant.2
+    let pairs : List (List ℕ) = c.as_chunks.result.0.now in
+    let none : drop l.k pairs ≡ [] = drop_of_length-le _ {i = l.k} (omega arith) in
+    let m : length c.args.bytes.now / 2 ≡ length c.args.places.now = omega arith in
+    sym (take_all l.k l.places (omega arith))
+    ∙ sym (append-nil (take l.k l.places))
+    ∙ (rw none at l.invariant)
+    ∙ ap (map sample_in) (c.as_chunks.ensures.front ∙ ap (λ (n : ℕ). first_chunks 2 n c.args.bytes.now) m)
+    ∙ sym (samples_of-pairs (length c.args.places.now) c.args.bytes.now (omega arith))
