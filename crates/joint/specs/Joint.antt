@@ -40,28 +40,15 @@ use Rattle.joint.specs.declared.Joint.{Joint}
 use Rattle.joint.specs.declared.JointSums.{JointSums}
 use Rattle.joint.specs.declared.JointTried.{JointTried}
 use Rattle.joint.specs.declared.Entering.{Entering}
-use Rattle.joint.specs.declared.Entered.{Entered}
 use Rattle.joint.specs.declared.OwnMoved.{OwnMoved}
-use Rattle.joint.specs.declared.AllMoved.{AllMoved}
 use Rattle.joint.specs.declared.Standings.{Standings}
-
--- the three values; what is kept of one channel
-abbrev pub sizes_of : Values → Three ℕ
-sizes_of x = record { a = x.a; b = x.b; c = x.c }
-
-abbrev pub own_at : Channel → Joint → Own
-own_at on_a j = j.a
-own_at on_b j = j.b
-own_at on_c j = j.c
 
 -- the value of one channel, with the mark of the joint value; and the sums of its window, with those of the joint marks
 abbrev pub marked_at : Channel → Values → Marked
-marked_at c x = record { value = at c (sizes_of x); clipped = x.clipped }
+marked_at c x = record { value = at c x.sizes; clipped = x.clipped }
 
 abbrev pub sums_at : Channel → JointSums → Sums
-sums_at on_a a = record { values = a.a; marks = a.marks }
-sums_at on_b a = record { values = a.b; marks = a.marks }
-sums_at on_c a = record { values = a.c; marks = a.marks }
+sums_at c a = record { values = at c a.values; marks = a.marks }
 
 abbrev pub three_of : {X : Type 0} → X → X → X → Three X
 three_of x y z = record { a = x; b = y; c = z }
@@ -79,16 +66,16 @@ joint_ends_at k t r = ends_of k (each (ends_at k t) r)
 
 -- a joint event after value i, as the code tests it and by the reading's tests
 abbrev pub joint_stepped_at : Kind → Threshold → ℕ → Values → Standing → Standing
-joint_stepped_at k t i x p = let r = sizes_of x in stepped k i (worst k r) x.clipped (joint_begins_at k t r) (joint_ends_at k t r) p
+joint_stepped_at k t i x p = let r = x.sizes in stepped k i (worst k r) x.clipped (joint_begins_at k t r) (joint_ends_at k t r) p
 
 abbrev pub joint_stepped : Settings → Kind → ℕ → Values → Standing → Standing
-joint_stepped s k i x p = let r = sizes_of x in stepped k i (worst k r) x.clipped (joint_begins s k r) (joint_ends s k r) p
+joint_stepped s k i x p = let r = x.sizes in stepped k i (worst k r) x.clipped (joint_begins s k r) (joint_ends s k r) p
 
-abbrev pub standings_by : Scaled → ℕ → Values → Joint → Standings
-standings_by t i x j = record {
-  dip = joint_stepped_at Dip t.dip i x j.dip;
-  swell = joint_stepped_at Swell t.swell i x j.swell;
-  interruption = joint_stepped_at Interruption t.interruption i x j.interruption;
+abbrev pub standings_by : Scaled → ℕ → Values → Standings → Standings
+standings_by t i x p = record {
+  dip = joint_stepped_at Dip t.dip i x p.dip;
+  swell = joint_stepped_at Swell t.swell i x p.swell;
+  interruption = joint_stepped_at Interruption t.interruption i x p.interruption;
 }
 
 -- whether a signal is true
@@ -127,45 +114,32 @@ own_moved_by n e is_steady o =
     record { own = record { signal = e.signal; phase = m.phase }; ended = m.ended }
 
 -- the same of each channel: the joint signal is true where all three own ones are
-abbrev pub entered_true : Entered → Bool
+abbrev pub entered_true : Three Entering → Bool
 entered_true e = true_in e.a.signal && (true_in e.b.signal && true_in e.c.signal)
 
-abbrev pub entered_at : Channel → Entered → Entering
-entered_at on_a e = e.a
-entered_at on_b e = e.b
-entered_at on_c e = e.c
-
 -- values that leave are small
-abbrev pub EnteredSmall : Entered → Type 0
-EnteredSmall e = (c : Channel) → (entered_at c e).joining.leaving ≤ 524288
+abbrev pub EnteredSmall : Three Entering → Type 0
+EnteredSmall e = (c : Channel) → (at c e).joining.leaving ≤ 524288
 
-abbrev pub all_moved_by : ℕ → Entered → Joint → AllMoved
+abbrev pub all_moved_by : ℕ → Three Entering → Joint → Three OwnMoved
 all_moved_by n e j =
     let b = entered_true e in
-    record { a = own_moved_by n e.a b j.a; b = own_moved_by n e.b b j.b; c = own_moved_by n e.c b j.c }
+    record { a = own_moved_by n e.a b j.own.a; b = own_moved_by n e.b b j.own.b; c = own_moved_by n e.c b j.own.c }
 
 -- what is kept after value i, the records due at it, by kind, and the sums of the windows with it: of a change the worst channel's magnitudes
-abbrev pub after_from : ℕ → Standings → AllMoved → Joint
-after_from i p w = record {
-  count = i;
-  dip = p.dip;
-  swell = p.swell;
-  interruption = p.interruption;
-  a = w.a.own;
-  b = w.b.own;
-  c = w.c.own;
-}
+abbrev pub after_from : ℕ → Standings → Three OwnMoved → Joint
+after_from i p w = record { own = each (λ (k : OwnMoved). k.own) w; count = i; standings = p }
 
-abbrev pub due_from : ℕ → Standings → AllMoved → Joint → Due
+abbrev pub due_from : ℕ → Standings → Three OwnMoved → Joint → Due
 due_from i p w j = record {
-  dip = ended_at (kind_number Dip) i j.dip p.dip;
-  swell = ended_at (kind_number Swell) i j.swell p.swell;
-  interruption = ended_at (kind_number Interruption) i j.interruption p.interruption;
+  dip = ended_at (kind_number Dip) i j.standings.dip p.dip;
+  swell = ended_at (kind_number Swell) i j.standings.swell p.swell;
+  interruption = ended_at (kind_number Interruption) i j.standings.interruption p.interruption;
   change = worse_ended w.a.ended (worse_ended w.b.ended w.c.ended);
 }
 
-abbrev pub sums_from : Entered → JointSums
-sums_from e = record { a = e.a.sums.values; b = e.b.sums.values; c = e.c.sums.values; marks = e.a.sums.marks }
+abbrev pub sums_from : Three Entering → JointSums
+sums_from e = record { values = each (λ (k : Entering). k.sums.values) e; marks = e.a.sums.marks }
 
 -- value x, with the windows ws and the marks of the joint values before it
 module _ (s : Settings) (x : Values) (j : Joint) (ws : Three (List ℕ)) (ms : List ℕ) where
@@ -173,20 +147,20 @@ module _ (s : Settings) (x : Values) (j : Joint) (ws : Three (List ℕ)) (ms : L
   standings_after =
       let i = suc j.count in
       record {
-        dip = joint_stepped s Dip i x j.dip;
-        swell = joint_stepped s Swell i x j.swell;
-        interruption = joint_stepped s Interruption i x j.interruption;
+        dip = joint_stepped s Dip i x j.standings.dip;
+        swell = joint_stepped s Swell i x j.standings.swell;
+        interruption = joint_stepped s Interruption i x j.standings.interruption;
       }
 
   -- what joins the windows, with the joint dips and swells at it
   abbrev pub entering_at : Stands → Channel → Entering
-  entering_at stands c = entering_of s j.count (at c ws) ms (marked_at c x) stands (own_at c j)
+  entering_at stands c = entering_of s j.count (at c ws) ms (marked_at c x) stands (at c j.own)
 
-  abbrev pub entered_of : Stands → Entered
+  abbrev pub entered_of : Stands → Three Entering
   entered_of stands = record { a = entering_at stands on_a; b = entering_at stands on_b; c = entering_at stands on_c }
 
-  abbrev pub all_moved_of : AllMoved
-  all_moved_of = all_moved_by (window_length_of s) (entered_of (stands_at (suc j.count) j.dip j.swell standings_after.dip standings_after.swell)) j
+  abbrev pub all_moved_of : Three OwnMoved
+  all_moved_of = all_moved_by (window_length_of s) (entered_of (stands_at (suc j.count) j.standings.dip j.standings.swell standings_after.dip standings_after.swell)) j
 
   unfoldable pub joint_after : Joint
   joint_after = after_from (suc j.count) standings_after all_moved_of
@@ -199,7 +173,7 @@ module _ (s : Settings) (x : Values) (j : Joint) (ws : Three (List ℕ)) (ms : L
 
 -- the sums of the windows
 abbrev pub joint_sums_of : Three (List ℕ) → List ℕ → JointSums
-joint_sums_of ws ms = record { a = sum ws.a; b = sum ws.b; c = sum ws.c; marks = sum ms }
+joint_sums_of ws ms = record { values = each sum ws; marks = sum ms }
 
 -- each channel's window with its value
 abbrev pub pushed_all : ℕ → ℕ → Three (List ℕ) → Three ℕ → Three (List ℕ)
@@ -212,7 +186,7 @@ joint_tried_by s x j ws ms =
     record {
       after = joint_after s x j ws ms;
       due = joint_due_by s x j ws ms;
-      sums = joint_sums_of (pushed_all n j.count ws (sizes_of x)) (pushed n j.count ms (flag x.clipped));
+      sums = joint_sums_of (pushed_all n j.count ws x.sizes) (pushed n j.count ms (flag x.clipped));
     }
 
 -- before the first value
@@ -220,7 +194,11 @@ abbrev pub no_own : Own
 no_own = record { signal = IsFilling; phase = Filling }
 
 abbrev pub no_values : Joint
-no_values = record { count = 0; dip = no_event; swell = no_event; interruption = no_event; a = no_own; b = no_own; c = no_own }
+no_values = record {
+  own = record { a = no_own; b = no_own; c = no_own };
+  count = 0;
+  standings = record { dip = no_event; swell = no_event; interruption = no_event };
+}
 
 -- what a change since k keeps of the joint dips and swells, as a change of one channel does
 abbrev pub joint_stand : Settings → ℕ → List (Three ℕ) → ℕ
@@ -240,13 +218,10 @@ own_of s c hist ms = record {
 
 abbrev pub joint_of : Settings → List (Three ℕ) → List ℕ → Joint
 joint_of s hist ms = record {
+  own = record { a = own_of s on_a hist ms; b = own_of s on_b hist ms; c = own_of s on_c hist ms };
   count = length hist;
-  dip = joint_standing s Dip hist ms;
-  swell = joint_standing s Swell hist ms;
-  interruption = joint_standing s Interruption hist ms;
-  a = own_of s on_a hist ms;
-  b = own_of s on_b hist ms;
-  c = own_of s on_c hist ms;
+  standings =
+      record { dip = joint_standing s Dip hist ms; swell = joint_standing s Swell hist ms; interruption = joint_standing s Interruption hist ms };
 }
 
 abbrev pub windows_of : ℕ → List (Three ℕ) → Three (List ℕ)
@@ -254,11 +229,11 @@ windows_of n hist = record { a = window_of n (channel on_a hist); b = window_of 
 
 -- what holds of it, with windows of n values
 pub record ValidJoint (n : ℕ) (j : Joint) : Type 0 where
-  pub dip-valid : ValidStanding j.count j.dip
-  pub swell-valid : ValidStanding j.count j.swell
-  pub interruption-valid : ValidStanding j.count j.interruption
-  pub signal-valid : (c : Channel) → ValidSignal n j.count (own_at c j).signal
-  pub phase-valid : (c : Channel) → ValidPhase n j.count (own_at c j).phase
+  pub dip-valid : ValidStanding j.count j.standings.dip
+  pub swell-valid : ValidStanding j.count j.standings.swell
+  pub interruption-valid : ValidStanding j.count j.standings.interruption
+  pub signal-valid : (c : Channel) → ValidSignal n j.count (at c j.own).signal
+  pub phase-valid : (c : Channel) → ValidPhase n j.count (at c j.own).phase
 
 -- what the code's step of one channel needs: t is scaled from the settings
 pub record EnterReady (s : Settings) (t : Scaled) (v : ℕ) (w ms : List ℕ) (a : Sums) (y : Marked) (o : Own) : Type 0 where
@@ -276,5 +251,5 @@ pub record JointReady (s : Settings) (t : Scaled) (j : Joint) (ws : Three (List 
   pub marks-valid : ValidWindow 1 (window_length_of s) j.count ms
   pub joint-valid : ValidJoint (window_length_of s) j
   pub sums-are : a ≡ joint_sums_of ws ms
-  pub values-le : Small3 (sizes_of x)
+  pub values-le : Small3 x.sizes
   pub count-lt : j.count < last_value

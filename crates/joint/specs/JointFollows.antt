@@ -40,7 +40,6 @@ use Rattle.three_laws.specs.EventsLaws.{joint_since-le}
 use Rattle.joint.specs.declared.Values.{Values}
 use Rattle.joint.specs.declared.Joint.{Joint}
 use Rattle.joint.specs.declared.Entering.{Entering}
-use Rattle.joint.specs.declared.Entered.{Entered}
 use Rattle.joint.specs.declared.OwnMoved.{OwnMoved}
 use Rattle.joint.specs.Joint.{true_in, worse_ended, entering_of, own_moved_by, entered_true, entered_of, all_moved_by, after_from, due_from, joint_stepped, joint_after, joint_due_by, joint_due_at}
 use Rattle.joint.specs.Joint.{joint_standing, joint_stand, own_of, joint_of, windows_of}
@@ -135,7 +134,7 @@ module _ (s : Settings) (r : Three ℕ) (older : List (Three ℕ)) (clipped : Bo
   now = flag clipped ∷ ms
 
   abbrev x : Values
-  x = record { a = r.a; b = r.b; c = r.c; clipped = clipped }
+  x = record { sizes = r; clipped = clipped }
 
   abbrev before : Joint
   before = joint_of s older ms
@@ -174,8 +173,8 @@ module _ (s : Settings) (r : Three ℕ) (older : List (Three ℕ)) (clipped : Bo
   abbrev stands : Stands
   stands = record { first = stands_now s hist; before = joint_dip_or_swell s older }
 
-  stands-is : stands_at i before.dip before.swell (joint_stepped s Dip i x before.dip) (joint_stepped s Swell i x before.swell) ≡ stands
-  stands-is = λ j. stands_at i before.dip before.swell (steps Dip j) (steps Swell j)
+  stands-is : let p = before.standings in stands_at i p.dip p.swell (joint_stepped s Dip i x p.dip) (joint_stepped s Swell i x p.swell) ≡ stands
+  stands-is = λ j. stands_at i before.standings.dip before.standings.swell (steps Dip j) (steps Swell j)
 
   -- one channel's own signal
   abbrev entering : Channel → Entering
@@ -188,7 +187,7 @@ module _ (s : Settings) (r : Three ℕ) (older : List (Three ℕ)) (clipped : Bo
       ∙ signal-follows s (at c r) (channel c older)
 
   -- the joint one
-  abbrev entered : Entered
+  abbrev entered : Three Entering
   entered = record { a = entering on_a; b = entering on_b; c = entering on_c }
 
   true-at : (c : Channel) → true_in (entering c).signal ≡ is_true (at c (signals s hist).own)
@@ -274,7 +273,7 @@ module _ (s : Settings) (r : Three ℕ) (older : List (Three ℕ)) (clipped : Bo
       ∙ ap (λ (p : Signal). map (record_of now) (joint_change_over s hist was p)) (sym (joint-is b (sym all-is)))
 
   -- the whole step
-  abbrev entered_by : Stands → Entered
+  abbrev entered_by : Stands → Three Entering
   entered_by stands = entered_of s x before (windows_of n older) (window_of n ms) stands
 
   pub joint-follows : joint_after s x (joint_of s older ms) (windows_of (window_length_of s) older) (window_of (window_length_of s) ms) ≡ joint_of s (r ∷ older) (flag clipped ∷ ms)
@@ -282,13 +281,9 @@ module _ (s : Settings) (r : Three ℕ) (older : List (Three ℕ)) (clipped : Bo
   joint-follows =
       (λ j. after_from i (record { dip = steps Dip j; swell = steps Swell j; interruption = steps Interruption j }) (all_moved_by n (entered_by (stands-is j)) before))
       ∙ (λ j. record {
+        own = record { a = own_is on_a j; b = own_is on_b j; c = own_is on_c j };
         count = i;
-        dip = joint_standing s Dip hist now;
-        swell = joint_standing s Swell hist now;
-        interruption = joint_standing s Interruption hist now;
-        a = own_is on_a j;
-        b = own_is on_b j;
-        c = own_is on_c j;
+        standings = record { dip = joint_standing s Dip hist now; swell = joint_standing s Swell hist now; interruption = joint_standing s Interruption hist now };
       })
 
   pub joint-due-follows : joint_due_at s x (joint_of s older ms) (windows_of (window_length_of s) older) (window_of (window_length_of s) ms)

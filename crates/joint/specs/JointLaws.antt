@@ -29,11 +29,9 @@ use Rattle.joint.specs.declared.Joint.{Joint}
 use Rattle.joint.specs.declared.JointSums.{JointSums}
 use Rattle.joint.specs.declared.JointTried.{JointTried}
 use Rattle.joint.specs.declared.Entering.{Entering}
-use Rattle.joint.specs.declared.Entered.{Entered}
 use Rattle.joint.specs.declared.OwnMoved.{OwnMoved}
-use Rattle.joint.specs.declared.AllMoved.{AllMoved}
 use Rattle.joint.specs.declared.Standings.{Standings}
-use Rattle.joint.specs.Joint.{own_at, marked_at, sums_at, standings_by, standings_after, entering_of, entering_at, entered_of, entered_at, entered_true, EnteredSmall}
+use Rattle.joint.specs.Joint.{marked_at, sums_at, standings_by, standings_after, entering_of, entering_at, entered_of, entered_true, EnteredSmall}
 use Rattle.joint.specs.Joint.{own_moved_by, all_moved_by, all_moved_of, after_from, due_from, sums_from, joint_after, joint_due_by, joint_sums_of, joint_tried_by}
 use Rattle.joint.specs.Joint.{EnterReady, JointReady}
 
@@ -72,9 +70,9 @@ module _ {s : Settings} {t : Scaled} {v : ℕ} {w ms : List ℕ} {a : Sums} {y :
         λ k. record { joining = (J k).joining; sums = (J k).sums; signal = A k }
 
 -- each channel goes on under the joint signal
-pub moved-is : (n : ℕ) (e : Entered) (j : Joint) {steady : Bool} {x y z : OwnMoved} →
-    steady ≡ entered_true e → x ≡ own_moved_by n e.a steady j.a → y ≡ own_moved_by n e.b steady j.b → z ≡ own_moved_by n e.c steady j.c →
-    ◌≡◌ {A = AllMoved} (record { a = x; b = y; c = z }) (all_moved_by n e j)
+pub moved-is : (n : ℕ) (e : Three Entering) (j : Joint) {steady : Bool} {x y z : OwnMoved} →
+    steady ≡ entered_true e → x ≡ own_moved_by n e.a steady j.own.a → y ≡ own_moved_by n e.b steady j.own.b → z ≡ own_moved_by n e.c steady j.own.c →
+    ◌≡◌ {A = Three OwnMoved} (record { a = x; b = y; c = z }) (all_moved_by n e j)
 moved-is n e j steady-is x-is y-is z-is = rw (x-is, y-is, z-is, steady-is)
 
 -- the three, with the windows ws and the marks of the joint values before the values x
@@ -84,7 +82,7 @@ module _ {s : Settings} {t : Scaled} {j : Joint} {ws : Three (List ℕ)} {ms : L
   sums_at_lem on_b = refl
   sums_at_lem on_c = refl
 
-  pub enter-ready : (c : Channel) {b : Sums} {y : Marked} → b ≡ sums_at c a → y ≡ marked_at c x → EnterReady s t j.count (at c ws) ms b y (own_at c j)
+  pub enter-ready : (c : Channel) {b : Sums} {y : Marked} → b ≡ sums_at c a → y ≡ marked_at c x → EnterReady s t j.count (at c ws) ms b y (at c j.own)
   enter-ready c b-is y-is = record {
     settings-valid = ready.settings-valid;
     scaled-is = ready.scaled-is;
@@ -99,26 +97,26 @@ module _ {s : Settings} {t : Scaled} {j : Joint} {ws : Three (List ℕ)} {ms : L
   }
 
   pub entered-is : (stands : Stands) (c : Channel) {y : Marked} {e : Entering} →
-      y ≡ marked_at c x → e ≡ entering_of s j.count (at c ws) ms y stands (own_at c j) → e ≡ entering_at s x j ws ms stands c
-  entered-is stands c y-is e-is = e-is ∙ (λ k. entering_of s j.count (at c ws) ms (y-is k) stands (own_at c j))
+      y ≡ marked_at c x → e ≡ entering_of s j.count (at c ws) ms y stands (at c j.own) → e ≡ entering_at s x j ws ms stands c
+  entered-is stands c y-is e-is = e-is ∙ (λ k. entering_of s j.count (at c ws) ms (y-is k) stands (at c j.own))
 
-  entered-at : (stands : Stands) (c : Channel) → entered_at c (entered_of s x j ws ms stands) ≡ entering_at s x j ws ms stands c
+  entered-at : (stands : Stands) (c : Channel) → at c (entered_of s x j ws ms stands) ≡ entering_at s x j ws ms stands c
   entered-at stands on_a = refl
   entered-at stands on_b = refl
   entered-at stands on_c = refl
 
-  pub entered-small : {stands : Stands} {e : Entered} → e ≡ entered_of s x j ws ms stands → EnteredSmall e
+  pub entered-small : {stands : Stands} {e : Three Entering} → e ≡ entered_of s x j ws ms stands → EnteredSmall e
   entered-small {stands} e-is c = rw (e-is, entered-at stands c) (leaving-le (window_length_of s) j.count (at c ws) (ready.window-valid c))
 
   -- the whole step, from its parts
-  pub tried-is : {i n : ℕ} {stands : Stands} {p : Standings} {e : Entered} {w : AllMoved} {after : Joint} {due : Due} {sums : JointSums} →
-      i ≡ suc j.count → p ≡ standings_by t i x j → stands ≡ stands_at i j.dip j.swell p.dip p.swell → e ≡ entered_of s x j ws ms stands → n ≡ window_length_of s →
+  pub tried-is : {i n : ℕ} {stands : Stands} {p : Standings} {e : Three Entering} {w : Three OwnMoved} {after : Joint} {due : Due} {sums : JointSums} →
+      i ≡ suc j.count → p ≡ standings_by t i x j.standings → stands ≡ stands_at i j.standings.dip j.standings.swell p.dip p.swell → e ≡ entered_of s x j ws ms stands → n ≡ window_length_of s →
       w ≡ all_moved_by n e j → due ≡ due_from i p w j → after ≡ after_from i p w → sums ≡ sums_from e →
       ◌≡◌ {A = JointTried} (record { after = after; due = due; sums = sums }) (joint_tried_by s x j ws ms)
   unfolding joint_after joint_due_by
   tried-is i-is p-is stands-is e-is n-is w-is due-is after_is sums-is =
-      let P : _ ≡ standings_after s x j ws ms = p-is ∙ (λ k. standings_by (ready.scaled-is k) (i-is k) x j) in
-      let S = stands-is ∙ (λ k. stands_at (i-is k) j.dip j.swell (P k).dip (P k).swell) in
+      let P : _ ≡ standings_after s x j ws ms = p-is ∙ (λ k. standings_by (ready.scaled-is k) (i-is k) x j.standings) in
+      let S = stands-is ∙ (λ k. stands_at (i-is k) j.standings.dip j.standings.swell (P k).dip (P k).swell) in
       let E = e-is ∙ (λ k. entered_of s x j ws ms (S k)) in
       let W : _ ≡ all_moved_of s x j ws ms = w-is ∙ (λ k. all_moved_by (n-is k) (E k) j) in
       let A = after_is ∙ (λ k. after_from (i-is k) (P k) (W k)) in

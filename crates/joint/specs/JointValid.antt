@@ -31,8 +31,8 @@ use Rattle.three_reading.specs.Three.Channel.{on_a, on_b, on_c}
 use Rattle.three_reading.specs.JointEvents.{joint_begins, joint_ends, worst}
 use Rattle.joint.specs.declared.Values.{Values}
 use Rattle.joint.specs.declared.Joint.{Joint}
-use Rattle.joint.specs.declared.Entered.{Entered}
-use Rattle.joint.specs.Joint.{sizes_of, own_at, Small3, true_in, own_signal, own_moved_by, entered_true, joint_stepped, standings_after, entering_at, entered_of}
+use Rattle.joint.specs.declared.Entering.{Entering}
+use Rattle.joint.specs.Joint.{Small3, true_in, own_signal, own_moved_by, entered_true, joint_stepped, standings_after, entering_at, entered_of}
 use Rattle.joint.specs.Joint.{joint_after, joint_due_by, joint_due_at, no_own, no_values, ValidJoint}
 
 -- a signal that is true has a full window
@@ -59,29 +59,29 @@ module _ (s : Settings) (x : Values) (j : Joint) (ws : Three (List ℕ)) (ms : L
   v = j.count
 
   abbrev r : Three ℕ
-  r = sizes_of x
+  r = x.sizes
 
-  module _ (small : Small3 (sizes_of x)) (windows : (c : Channel) → ValidWindow value_most (window_length_of s) j.count (at c ws)) (valid : ValidJoint (window_length_of s) j) where
+  module _ (small : Small3 x.sizes) (windows : (c : Channel) → ValidWindow value_most (window_length_of s) j.count (at c ws)) (valid : ValidJoint (window_length_of s) j) where
     step : (k : Kind) (p : Standing) → ValidStanding v p → ValidStanding (suc v) (joint_stepped s k (suc v) x p)
     step k p p-valid = stepped-valid k v (worst k r) x.clipped p (worst-le k r small) p-valid (joint_begins s k r) (joint_ends s k r)
 
     -- of any channel: its own signal, and its phase under the joint one
-    signal-kept : (c : Channel) → ValidSignal n (suc v) (own_signal s v (at c ws) (at c r) (own_at c j).signal)
+    signal-kept : (c : Channel) → ValidSignal n (suc v) (own_signal s v (at c ws) (at c r) (at c j.own).signal)
     signal-kept c =
-        let p = (own_at c j).signal in
+        let p = (at c j.own).signal in
         let h = valid.signal-valid c in
         after-valid n v (steady_after s v (at c ws) (at c r) p) p (true-full n v p (calm s (limit_in s p) (pushed n v (at c ws) (at c r))) h) h
 
     abbrev stands : Stands
-    stands = stands_at (suc v) j.dip j.swell (standings_after s x j ws ms).dip (standings_after s x j ws ms).swell
+    stands = stands_at (suc v) j.standings.dip j.standings.swell (standings_after s x j ws ms).dip (standings_after s x j ws ms).swell
 
-    abbrev entered : Entered
+    abbrev entered : Three Entering
     entered = entered_of s x j ws ms stands
 
     full : entered_true entered ≡ true → n ≤ suc v
     full e = full-if n (suc v) entered.a.signal (signal-kept on_a) (and_left (true_in entered.a.signal) (true_in entered.b.signal && true_in entered.c.signal) e)
 
-    own-after : (c : Channel) → own_at c (joint_after s x j ws ms) ≡ (own_moved_by n (entering_at s x j ws ms stands c) (entered_true entered) (own_at c j)).own
+    own-after : (c : Channel) → at c (joint_after s x j ws ms).own ≡ (own_moved_by n (entering_at s x j ws ms stands c) (entered_true entered) (at c j.own)).own
     unfolding joint_after
     own-after on_a = refl
     own-after on_b = refl
@@ -90,13 +90,13 @@ module _ (s : Settings) (x : Values) (j : Joint) (ws : Three (List ℕ)) (ms : L
     pub joint_after-valid : ValidJoint (window_length_of s) (joint_after s x j ws ms)
     unfolding joint_after
     joint_after-valid = record {
-      dip-valid = step Dip j.dip valid.dip-valid;
-      swell-valid = step Swell j.swell valid.swell-valid;
-      interruption-valid = step Interruption j.interruption valid.interruption-valid;
+      dip-valid = step Dip j.standings.dip valid.dip-valid;
+      swell-valid = step Swell j.standings.swell valid.swell-valid;
+      interruption-valid = step Interruption j.standings.interruption valid.interruption-valid;
       signal-valid = λ c. rw (own-after c) (signal-kept c);
       phase-valid = λ c.
           rw (own-after c)
-          (moved-valid n v (at c ws) ms (at c r) stands (entered_true entered) (own_at c j).phase (window_length_of-most s) full (windows c) (valid.phase-valid c));
+          (moved-valid n v (at c ws) ms (at c r) stands (entered_true entered) (at c j.own).phase (window_length_of-most s) full (windows c) (valid.phase-valid c));
     }
 
 -- before the first value
@@ -109,7 +109,7 @@ no_values-valid s = record {
   phase-valid = λ c. rw (own-none c) (allowed-valid (window_length_of s) 0 Filling (window_length_of-some s));
 }
   where
-    own-none : (c : Channel) → own_at c no_values ≡ no_own
+    own-none : (c : Channel) → at c no_values.own ≡ no_own
     own-none on_a = refl
     own-none on_b = refl
     own-none on_c = refl

@@ -2,9 +2,8 @@
 #![tactic(auto)]
 
 ghost use Rattle.std.specs.Prelude.{◌≡◌, ◌≤◌};
-ghost use Rattle.three_reading.specs.Three.Channel.{on_a, on_b, on_c};
 ghost use Rattle.three_reading.specs.JointEvents.{worst as worst_of};
-ghost use Rattle.joint.specs.Joint.{Small3, three_of, sizes_of, marked_at, sums_at, joint_begins_at, joint_ends_at, joint_stepped_at, true_in, worse_record, worse_ended};
+ghost use Rattle.joint.specs.Joint.{Small3, joint_begins_at, joint_ends_at, joint_stepped_at, worse_record, worse_ended};
 ghost use Rattle.joint.specs.Joint.{no_own, no_values, entering_of, own_moved_by, standings_by, joint_tried_by, EnterReady, JointReady};
 ghost use Rattle.joint.specs.Joint.{entered_of, entered_true, EnteredSmall, all_moved_by, due_from, after_from, sums_from};
 
@@ -13,15 +12,14 @@ use records::Due;
 use rms::Marked;
 use rvc::{Joining, Phase, Signal, Stands};
 use settings::{Scaled, Settings, Threshold};
-use threshold::{Ended, Standing};
+use three_reading::Three;
+use threshold::Standing;
 use window::Sums;
 
 // The values of three channels, and whether one of them is clipped.
 #[derive(Clone, Copy)]
 pub struct Values {
-    pub a: u32,
-    pub b: u32,
-    pub c: u32,
+    pub sizes: Three<u32>,
     pub clipped: bool,
 }
 
@@ -33,24 +31,26 @@ pub struct Own {
     pub signal: Signal,
 }
 
-// What is kept of the values of all three: what is kept of each channel, their count, and the joint events that stand.
+// The joint events that stand.
 #[derive(Clone, Copy)]
-pub struct Joint {
-    pub a: Own,
-    pub b: Own,
-    pub c: Own,
-    pub count: u64,
+pub struct Standings {
     pub dip: Standing,
     pub swell: Standing,
     pub interruption: Standing,
 }
 
+// What is kept of the values of all three: what is kept of each channel, their count, and the joint events that stand.
+#[derive(Clone, Copy)]
+pub struct Joint {
+    pub own: Three<Own>,
+    pub count: u64,
+    pub standings: Standings,
+}
+
 // The sums of the three windows, and how many of their joint values are clipped.
 #[derive(Clone, Copy)]
 pub struct JointSums {
-    pub a: u64,
-    pub b: u64,
-    pub c: u64,
+    pub values: Three<u64>,
     pub marks: u64,
 }
 
@@ -62,74 +62,6 @@ pub struct JointTried {
     pub sums: JointSums,
 }
 
-impl Values {
-    // One channel's value; the mark is that of the joint value.
-    fn of_a(self) -> Marked
-        ensures { result ≡ marked_at on_a self }
-    {
-        Marked {
-            value: self.a,
-            clipped: self.clipped,
-        }
-    }
-
-    fn of_b(self) -> Marked
-        ensures { result ≡ marked_at on_b self }
-    {
-        Marked {
-            value: self.b,
-            clipped: self.clipped,
-        }
-    }
-
-    fn of_c(self) -> Marked
-        ensures { result ≡ marked_at on_c self }
-    {
-        Marked {
-            value: self.c,
-            clipped: self.clipped,
-        }
-    }
-}
-
-impl JointSums {
-    // One channel's sums; the marks are those of the joint values.
-    fn of_a(self) -> Sums
-        ensures { result ≡ sums_at on_a self }
-    {
-        Sums {
-            values: self.a,
-            marks: self.marks,
-        }
-    }
-
-    fn of_b(self) -> Sums
-        ensures { result ≡ sums_at on_b self }
-    {
-        Sums {
-            values: self.b,
-            marks: self.marks,
-        }
-    }
-
-    fn of_c(self) -> Sums
-        ensures { result ≡ sums_at on_c self }
-    {
-        Sums {
-            values: self.c,
-            marks: self.marks,
-        }
-    }
-}
-
-// The joint events after a value.
-#[derive(Clone, Copy)]
-struct Standings {
-    dip: Standing,
-    swell: Standing,
-    interruption: Standing,
-}
-
 // A value that joins its channel's window, the sums of the window with it, and the own signal at it.
 #[derive(Clone, Copy)]
 struct Entering {
@@ -138,136 +70,89 @@ struct Entering {
     signal: Signal,
 }
 
-// The same of each channel.
-#[derive(Clone, Copy)]
-struct Entered {
-    a: Entering,
-    b: Entering,
-    c: Entering,
-}
-
 // What a value leaves of one channel, and the record of a change that ends with it, as that channel has it.
 #[derive(Clone, Copy)]
 struct OwnMoved {
     own: Own,
-    ended: Ended,
-}
-
-// The same of each channel.
-#[derive(Clone, Copy)]
-struct AllMoved {
-    a: OwnMoved,
-    b: OwnMoved,
-    c: OwnMoved,
+    ended: Option<Record>,
 }
 
 // The worst of three values: the lowest of a dip or an interruption, the highest of a swell.
-fn worst(kind: Kind, values: Values) -> u64
-    ensures { result ≡ worst_of kind (sizes_of values) }
+fn worst(kind: Kind, sizes: Three<u32>) -> u64
+    ensures { result ≡ worst_of kind sizes }
 {
-    let others = threshold::worse_of(kind, values.b as u64, values.c as u64);
-    threshold::worse_of(kind, values.a as u64, others)
+    let others = threshold::worse_of(kind, u64::from(sizes.b), u64::from(sizes.c));
+    threshold::worse_of(kind, u64::from(sizes.a), others)
 }
 
 // A dip or a swell begins with any channel, an interruption with all.
-fn begins(kind: Kind, level: Threshold, values: Values) -> bool
-    requires { Small3 (sizes_of values) }
-    ensures { result ≡ joint_begins_at kind level (sizes_of values) }
+fn begins(kind: Kind, level: Threshold, sizes: Three<u32>) -> bool
+    requires { Small3 sizes }
+    ensures { result ≡ joint_begins_at kind level sizes }
 {
-    let a = threshold::begins(kind, level, values.a as u64);
-    let b = threshold::begins(kind, level, values.b as u64);
-    let c = threshold::begins(kind, level, values.c as u64);
+    let beyond = sizes.map(|size: u32| threshold::begins(kind, level, u64::from(size)));
     match kind {
-        Kind::Dip => a | (b | c),
-        Kind::Swell => a | (b | c),
-        Kind::Interruption => a & (b & c),
+        Kind::Dip | Kind::Swell => beyond.any(),
+        Kind::Interruption => beyond.all(),
     }
 }
 
 // A dip or a swell ends with all channels, an interruption with any.
-fn ends(kind: Kind, level: Threshold, values: Values) -> bool
-    requires { Small3 (sizes_of values) }
-    ensures { result ≡ joint_ends_at kind level (sizes_of values) }
+fn ends(kind: Kind, level: Threshold, sizes: Three<u32>) -> bool
+    requires { Small3 sizes }
+    ensures { result ≡ joint_ends_at kind level sizes }
 {
-    let a = threshold::ends(kind, level, values.a as u64);
-    let b = threshold::ends(kind, level, values.b as u64);
-    let c = threshold::ends(kind, level, values.c as u64);
+    let back = sizes.map(|size: u32| threshold::ends(kind, level, u64::from(size)));
     match kind {
-        Kind::Dip => a & (b & c),
-        Kind::Swell => a & (b & c),
-        Kind::Interruption => a | (b | c),
+        Kind::Dip | Kind::Swell => back.all(),
+        Kind::Interruption => back.any(),
     }
 }
 
 // A joint event after value i.
 fn step(standing: Standing, kind: Kind, level: Threshold, i: u64, values: Values) -> Standing
-    requires { Small3 (sizes_of values) }
+    requires { Small3 values.sizes }
     ensures { result ≡ joint_stepped_at kind level i values standing }
 {
+    let sizes = values.sizes;
     standing.step(
         kind,
         i,
-        worst(kind, values),
+        worst(kind, sizes),
         values.clipped,
-        begins(kind, level, values),
-        ends(kind, level, values),
+        begins(kind, level, sizes),
+        ends(kind, level, sizes),
     )
 }
 
-// Whether an own signal, as a value leaves it, is true.
-fn is_true(signal: Signal) -> bool
-    ensures { result ≡ true_in signal }
-{
-    match signal {
-        Signal::Filling => false,
-        Signal::Unsettled => false,
-        Signal::Steady => true,
-        Signal::Changing(_) => false,
-    }
-}
-
 // The joint signal: all three own ones are true.
-fn all_true(entered: Entered) -> bool
+fn all_true(entered: Three<Entering>) -> bool
     ensures { result ≡ entered_true entered }
 {
-    let a = entered.a;
-    let b = entered.b;
-    let c = entered.c;
-    let signal_a = a.signal;
-    let signal_b = b.signal;
-    let signal_c = c.signal;
-    is_true(signal_a) & (is_true(signal_b) & is_true(signal_c))
+    entered
+        .map(|entering: Entering| matches!(entering.signal, Signal::Steady))
+        .all()
 }
 
 // Of a change that ends in two channels the worse: each magnitude by itself.
 fn worse_record(x: Record, y: Record) -> Record
     ensures { result ≡ worse_record x y }
 {
-    let one = x.event;
-    let other = y.event;
     Record {
         event: Event {
-            kind: one.kind,
-            start: one.start,
-            duration: one.duration,
-            first: threshold::higher(one.first, other.first),
-            second: threshold::higher(one.second, other.second),
+            first: x.event.first.max(y.event.first),
+            second: x.event.second.max(y.event.second),
+            ..x.event
         },
         clipped: x.clipped | y.clipped,
     }
 }
 
 // Of a recording, all phases stand under one signal and keep one stand, and so end together or not at all.
-fn worse_ended(x: Ended, y: Ended) -> Ended
+fn worse_ended(x: Option<Record>, y: Option<Record>) -> Option<Record>
     ensures { result ≡ worse_ended x y }
 {
-    match x {
-        Ended::Nothing => Ended::Nothing,
-        Ended::Over(one) => match y {
-            Ended::Nothing => Ended::Nothing,
-            Ended::Over(other) => Ended::Over(worse_record(one, other)),
-        },
-    }
+    Some(worse_record(x?, y?))
 }
 
 impl Own {
@@ -286,8 +171,8 @@ impl Own {
         settings: Settings,
         scaled: Scaled,
         count: u64,
-        window: &[u32],
-        marks: &[u8],
+        window: &[u32; 120],
+        marks: &[u8; 120],
         sums: Sums,
         value: Marked,
         stands: Stands,
@@ -306,15 +191,15 @@ impl Own {
             stands,
         );
         let joining = joined.joining;
-        let after = joined.sums;
         let first = detection::first_staying(count, window_length);
         let end = first + (window_length as usize - 1);
-        let signal = self.signal;
-        let truth = signal.is_true(scaled, window_length, &window[first..end], joining);
+        let truth = self
+            .signal
+            .is_true(scaled, window_length, &window[first..end], joining);
         Entering {
             joining,
-            sums: after,
-            signal: signal.after(window_length, joining.number, truth),
+            sums: joined.sums,
+            signal: self.signal.after(window_length, joining.number, truth),
         }
     }
 
@@ -323,83 +208,21 @@ impl Own {
         requires { (window_length ≤ 120) × (entering.joining.leaving ≤ 524288) }
         ensures { result ≡ own_moved_by window_length entering steady self }
     {
-        let signal = entering.signal;
-        let joining = entering.joining;
-        let phase = self.phase;
-        let moved = phase.moved(window_length, joining, steady);
-        let ended = moved.ended;
-        let after = moved.phase;
+        let moved = self.phase.moved(window_length, entering.joining, steady);
         OwnMoved {
             own: Own {
-                signal,
-                phase: after,
+                signal: entering.signal,
+                phase: moved.phase,
             },
-            ended,
+            ended: moved.ended,
         }
     }
 }
 
-// What is kept after value i.
-fn after_of(i: u64, standings: Standings, moved: AllMoved) -> Joint
-    ensures { result ≡ after_from i standings moved }
-{
-    let dip = standings.dip;
-    let swell = standings.swell;
-    let interruption = standings.interruption;
-    let a = moved.a;
-    let b = moved.b;
-    let c = moved.c;
-    let own_a = a.own;
-    let own_b = b.own;
-    let own_c = c.own;
-    Joint {
-        count: i,
-        dip,
-        swell,
-        interruption,
-        a: own_a,
-        b: own_b,
-        c: own_c,
-    }
-}
-
-// The sums of the windows with a value of each channel. The marks are joint, so any channel's sum of them is the one.
-fn sums_of(entered: Entered) -> JointSums
-    ensures { result ≡ sums_from entered }
-{
-    let a = entered.a;
-    let b = entered.b;
-    let c = entered.c;
-    let sums_a = a.sums;
-    let sums_b = b.sums;
-    let sums_c = c.sums;
-    JointSums {
-        a: sums_a.values,
-        b: sums_b.values,
-        c: sums_c.values,
-        marks: sums_a.marks,
-    }
-}
-
-impl Joint {
-    pub fn new() -> Joint
-        ensures { result ≡ no_values }
-    {
-        let none = Standing::none();
-        Joint {
-            count: 0,
-            dip: none,
-            swell: none,
-            interruption: none,
-            a: Own::new(),
-            b: Own::new(),
-            c: Own::new(),
-        }
-    }
-
+impl Standings {
     // The joint events after value i.
-    fn standings(self, scaled: Scaled, i: u64, values: Values) -> Standings
-        requires { Small3 (sizes_of values) }
+    fn step(self, scaled: Scaled, i: u64, values: Values) -> Standings
+        requires { Small3 values.sizes }
         ensures { result ≡ standings_by scaled i values self }
     {
         Standings {
@@ -414,100 +237,109 @@ impl Joint {
             ),
         }
     }
+}
+
+// What is kept after value i.
+fn after_of(i: u64, standings: Standings, moved: Three<OwnMoved>) -> Joint
+    ensures { result ≡ after_from i standings moved }
+{
+    Joint {
+        own: moved.map(|channel: OwnMoved| channel.own),
+        count: i,
+        standings,
+    }
+}
+
+// The sums of the windows with a value of each channel. The marks are joint, so any channel's sum of them is the one.
+fn sums_of(entered: Three<Entering>) -> JointSums
+    ensures { result ≡ sums_from entered }
+{
+    JointSums {
+        values: entered.map(|entering: Entering| entering.sums.values),
+        marks: entered.a.sums.marks,
+    }
+}
+
+impl Joint {
+    pub fn new() -> Joint
+        ensures { result ≡ no_values }
+    {
+        let none = Standing::none();
+        let own = Own::new();
+        Joint {
+            own: Three {
+                a: own,
+                b: own,
+                c: own,
+            },
+            count: 0,
+            standings: Standings {
+                dip: none,
+                swell: none,
+                interruption: none,
+            },
+        }
+    }
 
     // The value of each channel joins its window.
     fn enter(
         self,
         settings: Settings,
         scaled: Scaled,
-        a: &[u32],
-        b: &[u32],
-        c: &[u32],
-        marks: &[u8],
+        windows: &Three<[u32; 120]>,
+        marks: &[u8; 120],
         sums: JointSums,
         values: Values,
         stands: Stands,
-    ) -> Entered
-        requires { JointReady settings scaled self (three_of a.now b.now c.now) marks.now sums values }
-        ensures { result ≡ entered_of settings values self (three_of a.now b.now c.now) marks.now stands }
+    ) -> Three<Entering>
+        requires { JointReady settings scaled self windows.now marks.now sums values }
+        ensures { result ≡ entered_of settings values self windows.now marks.now stands }
     {
-        let count = self.count;
-        let own_a = self.a;
-        let own_b = self.b;
-        let own_c = self.c;
-        Entered {
-            a: own_a.enter(
-                settings,
-                scaled,
-                count,
-                a,
-                marks,
-                sums.of_a(),
-                values.of_a(),
-                stands,
-            ),
-            b: own_b.enter(
-                settings,
-                scaled,
-                count,
-                b,
-                marks,
-                sums.of_b(),
-                values.of_b(),
-                stands,
-            ),
-            c: own_c.enter(
-                settings,
-                scaled,
-                count,
-                c,
-                marks,
-                sums.of_c(),
-                values.of_c(),
-                stands,
-            ),
+        let enter = |own: Own, window: &[u32; 120], sum: u64, size: u32| {
+            let sums = Sums {
+                values: sum,
+                marks: sums.marks,
+            };
+            let value = Marked {
+                value: size,
+                clipped: values.clipped,
+            };
+            own.enter(
+                settings, scaled, self.count, window, marks, sums, value, stands,
+            )
+        };
+        Three {
+            a: enter(self.own.a, &windows.a, sums.values.a, values.sizes.a),
+            b: enter(self.own.b, &windows.b, sums.values.b, values.sizes.b),
+            c: enter(self.own.c, &windows.c, sums.values.c, values.sizes.c),
         }
     }
 
     // Each channel's phase goes on under the joint signal.
-    fn go_on(self, window_length: u64, entered: Entered) -> AllMoved
+    fn go_on(self, window_length: u64, entered: Three<Entering>) -> Three<OwnMoved>
         requires { (window_length ≤ 120) × EnteredSmall entered }
         ensures { result ≡ all_moved_by window_length entered self }
     {
         let steady = all_true(entered);
-        let own_a = self.a;
-        let own_b = self.b;
-        let own_c = self.c;
-        let enter_a = entered.a;
-        let enter_b = entered.b;
-        let enter_c = entered.c;
-        AllMoved {
-            a: own_a.go_on(window_length, enter_a, steady),
-            b: own_b.go_on(window_length, enter_b, steady),
-            c: own_c.go_on(window_length, enter_c, steady),
+        Three {
+            a: self.own.a.go_on(window_length, entered.a, steady),
+            b: self.own.b.go_on(window_length, entered.b, steady),
+            c: self.own.c.go_on(window_length, entered.c, steady),
         }
     }
 
     // The records due at value i, by kind.
-    fn due(self, i: u64, standings: Standings, moved: AllMoved) -> Due
+    fn due(self, i: u64, standings: Standings, moved: Three<OwnMoved>) -> Due
         ensures { result ≡ due_from i standings moved self }
     {
-        let dip = standings.dip;
-        let swell = standings.swell;
-        let interruption = standings.interruption;
-        let a = moved.a;
-        let b = moved.b;
-        let c = moved.c;
-        let ended_a = a.ended;
-        let ended_b = b.ended;
-        let ended_c = c.ended;
+        let before = self.standings;
         Due {
-            dip: self.dip.ended(Event::DIP, i, dip),
-            swell: self.swell.ended(Event::SWELL, i, swell),
-            interruption: self
+            dip: before.dip.ended(Kind::Dip, i, standings.dip),
+            swell: before.swell.ended(Kind::Swell, i, standings.swell),
+            interruption: before
                 .interruption
-                .ended(Event::INTERRUPTION, i, interruption),
-            change: worse_ended(ended_a, worse_ended(ended_b, ended_c)),
+                .ended(Kind::Interruption, i, standings.interruption),
+            change: worse_ended(moved.a.ended, worse_ended(moved.b.ended, moved.c.ended)),
         }
     }
 
@@ -516,26 +348,24 @@ impl Joint {
         self,
         settings: Settings,
         scaled: Scaled,
-        a: &[u32],
-        b: &[u32],
-        c: &[u32],
-        marks: &[u8],
+        windows: &Three<[u32; 120]>,
+        marks: &[u8; 120],
         sums: JointSums,
         values: Values,
     ) -> JointTried
-        requires { JointReady settings scaled self (three_of a.now b.now c.now) marks.now sums values }
-        ensures { result ≡ joint_tried_by settings values self (three_of a.now b.now c.now) marks.now }
+        requires { JointReady settings scaled self windows.now marks.now sums values }
+        ensures { result ≡ joint_tried_by settings values self windows.now marks.now }
     {
         let i = self.count + 1;
-        let standings = self.standings(scaled, i, values);
-        let dip = standings.dip;
-        let swell = standings.swell;
-        let stands = detection::stands_at(i, self.dip, self.swell, dip, swell);
-        let entered = self.enter(settings, scaled, a, b, c, marks, sums, values, stands);
+        let before = self.standings;
+        let after = before.step(scaled, i, values);
+        let stands = detection::stands_at(i, before.dip, before.swell, after.dip, after.swell);
+        let entered = self.enter(settings, scaled, windows, marks, sums, values, stands);
         let moved = self.go_on(settings.window_length(), entered);
-        let due = self.due(i, standings, moved);
-        let after = after_of(i, standings, moved);
-        let sums = sums_of(entered);
-        JointTried { after, due, sums }
+        JointTried {
+            after: after_of(i, after, moved),
+            due: self.due(i, after, moved),
+            sums: sums_of(entered),
+        }
     }
 }

@@ -45,7 +45,7 @@ use Rattle.three_laws.specs.ChannelLaws.{length-channel, channel-append}
 use Rattle.three_laws.specs.RecordingsLaws.{count-channel, length-joint_history, length-joint_marks, channel-value, channel-history, joint_history-grow, joint_marks-grow}
 use Rattle.three_laws.specs.ThreePast.{three_past}
 use Rattle.joint.specs.declared.Values.{Values}
-use Rattle.joint.specs.Joint.{three_of, sizes_of, no_values, joint_stand}
+use Rattle.joint.specs.Joint.{three_of, no_values, joint_stand}
 use Rattle.joint.specs.JointFollows.{joint-follows, joint-due-follows}
 use Rattle.three_state.specs.ThreeState.{three_with, three_fresh, gatherers_of, three_on, three_state_of, channel_readings_of, three_readings_of}
 use Rattle.three_state.specs.ThreeStep.{with_joint, with_joints, due_on_three, with_gatherers, parts_of, with_parts, with_halves, jointly, values_with}
@@ -57,11 +57,11 @@ module _ (s : Settings) (g : Three Gatherer) (hist : List (Three ℕ)) (ms : Lis
   marked = flag x.clipped ∷ ms
 
   window_on : (c : Channel) → let n = window_length_of s in
-      pushed n (length hist) (window_of n (channel c hist)) (at c (sizes_of x)) ≡ window_of n (channel c (sizes_of x ∷ hist))
+      pushed n (length hist) (window_of n (channel c hist)) (at c x.sizes) ≡ window_of n (channel c (x.sizes ∷ hist))
   window_on c =
       let n = window_length_of s in
-      ap (λ (v : ℕ). pushed n v (window_of n (channel c hist)) (at c (sizes_of x))) (sym (length-channel c hist))
-      ∙ window-follows n (at c (sizes_of x)) (channel c hist) (window_length_of-some s) (window_length_of-most s)
+      ap (λ (v : ℕ). pushed n v (window_of n (channel c hist)) (at c x.sizes)) (sym (length-channel c hist))
+      ∙ window-follows n (at c x.sizes) (channel c hist) (window_length_of-some s) (window_length_of-most s)
 
   marks-on : let n = window_length_of s in pushed n (length hist) (window_of n ms) (flag x.clipped) ≡ window_of n marked
   marks-on =
@@ -69,9 +69,9 @@ module _ (s : Settings) (g : Three Gatherer) (hist : List (Three ℕ)) (ms : Lis
       ap (λ (v : ℕ). pushed n v (window_of n ms) (flag x.clipped)) (sym beside)
       ∙ window-follows n (flag x.clipped) ms (window_length_of-some s) (window_length_of-most s)
 
-  with_joint-follows : with_joint x (three_on s g hist ms) ≡ three_on s g (sizes_of x ∷ hist) (flag x.clipped ∷ ms)
+  with_joint-follows : with_joint x (three_on s g hist ms) ≡ three_on s g (x.sizes ∷ hist) (flag x.clipped ∷ ms)
   with_joint-follows = λ i.
-      three_with s g (joint-follows s (sizes_of x) hist x.clipped ms beside i) (three_of (window_on on_a i) (window_on on_b i) (window_on on_c i)) (marks-on i)
+      three_with s g (joint-follows s x.sizes hist x.clipped ms beside i) (three_of (window_on on_a i) (window_on on_b i) (window_on on_c i)) (marks-on i)
 
 -- what comes out with a sample: one where it ends a half-cycle and the one before was whole
 abbrev out : {X : Type 0} → Bool → Bool → X → List X
@@ -164,7 +164,7 @@ module _ (s : Settings) (some : 0 < s.samples) (rec : List (Three ℤ)) (x : Thr
   -- so what comes out of all three joins the joint history
   record Joined (xs : List Values) : Type 0 where
     count_is : w ≡ length xs + v
-    values_are : joint_values s longer ≡ map sizes_of xs ++ joint_values s rec
+    values_are : joint_values s longer ≡ map (λ (y : Values). y.sizes) xs ++ joint_values s rec
     marks_are : joint_marks s longer w ≡ map (λ (y : Values). flag y.clipped) xs ++ joint_marks s rec v
 
   none-joined : values s (channel on_a longer) ≡ values s (channel on_a rec) → Joined []
@@ -241,7 +241,7 @@ module _ (s : Settings) (some : 0 < s.samples) (rec : List (Three ℤ)) (x : Thr
       by (y ∷ []) h are =
           let more : w - v ≡ 1 = omega (arith, are.count_is) in
           let last : v + 1 ≡ w = omega (arith, are.count_is) in
-          joint-due-follows s (sizes_of y) (joint_values s rec) y.clipped (joint_marks s rec v) beside
+          joint-due-follows s y.sizes (joint_values s rec) y.clipped (joint_marks s rec v) beside
           ∙ sym (ap (joint_due_after s longer v) more ∙ ap (joint_records_at s longer) last ∙ (λ i. map (record_of (are.marks_are i)) (joint_due s (are.values_are i))))
       by (y ∷ (z ∷ ys)) h are = absurd (omega arith)
 

@@ -16,7 +16,6 @@ use Rattle.three_laws.specs.ChannelLaws.{length-channel}
 use Rattle.joint.specs.declared.Values.{Values}
 use Rattle.joint.specs.Joint.{joint_due_at}
 use Rattle.three_state.specs.declared.ThreeState.{ThreeState}
-use Rattle.three_state.specs.ThreeState.{windows_in}
 use Rattle.three_state.specs.ThreeStep.{with_joint, with_joints, due_on_three, with_gatherers, parts_of, with_parts, with_halves, jointly, values_with, values_out}
 use Rattle.three_state.specs.ThreeStep.{three_passes, three_half_due, three_half, three_part, three_cutter}
 
@@ -29,7 +28,7 @@ due_on_three-gatherers : (xs : List Values) (st : ThreeState) (g : Three Gathere
 due_on_three-gatherers [] st g = refl
 due_on_three-gatherers (x ∷ xs) st g = λ i.
     let before : ThreeState = with_joints-gatherers xs st g i in
-    due_on_three-gatherers xs st g i ++ joint_due_at st.settings x before.joint (windows_in before) before.marks
+    due_on_three-gatherers xs st g i ++ joint_due_at st.settings x before.joint before.windows before.marks
 
 -- no triple joins nothing
 none-join : (g : Three Gatherer) → with_parts g (parts_of []) ≡ g

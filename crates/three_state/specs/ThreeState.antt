@@ -20,13 +20,9 @@ use Rattle.joint.specs.declared.Joint.{Joint}
 use Rattle.joint.specs.Joint.{three_of, joint_of, no_values, windows_of, ValidJoint}
 use Rattle.three_state.specs.declared.ThreeState.{ThreeState}
 
--- the channels' windows
-abbrev pub windows_in : ThreeState → Three (List ℕ)
-windows_in st = three_of st.a st.b st.c
-
 -- a state in its parts
 abbrev pub three_with : Settings → Three Gatherer → Joint → Three (List ℕ) → List ℕ → ThreeState
-three_with s g j ws ms = record { settings = s; gatherers = g; joint = j; a = ws.a; b = ws.b; c = ws.c; marks = ms }
+three_with s g j ws ms = record { settings = s; gatherers = g; joint = j; windows = ws; marks = ms }
 
 -- a fresh logger: it has taken no triple
 abbrev pub no_samples : Three Gatherer
@@ -56,13 +52,13 @@ channel_readings_of s v w = record {
 -- the joint phase is channel a's: a recording leaves each channel's phase under the one joint signal (`own_of`), whose number it has (`three-readings-of`)
 unfoldable pub three_readings_of : ThreeState → ThreeReadings
 three_readings_of st = record {
-  a = channel_readings_of st.settings st.joint.count st.a;
-  b = channel_readings_of st.settings st.joint.count st.b;
-  c = channel_readings_of st.settings st.joint.count st.c;
-  phase = phase_number_of st.joint.a.phase;
-  dip = 0 <ᵇ st.joint.dip.start;
-  swell = 0 <ᵇ st.joint.swell.start;
-  interruption = 0 <ᵇ st.joint.interruption.start;
+  a = channel_readings_of st.settings st.joint.count st.windows.a;
+  b = channel_readings_of st.settings st.joint.count st.windows.b;
+  c = channel_readings_of st.settings st.joint.count st.windows.c;
+  phase = phase_number_of st.joint.own.a.phase;
+  dip = 0 <ᵇ st.joint.standings.dip.start;
+  swell = 0 <ᵇ st.joint.standings.swell.start;
+  interruption = 0 <ᵇ st.joint.standings.interruption.start;
 }
 
 -- the invariant of a three-phase logger: of each channel what holds of one; the channels are cut at one place
@@ -70,7 +66,7 @@ pub record ValidThree (st : ThreeState) : Type 0 where
   pub settings-valid : ValidSettings st.settings
   pub gatherer-valid : (c : Channel) → ValidGatherer st.settings.samples (at c st.gatherers)
   pub joint-valid : ValidJoint (window_length_of st.settings) st.joint
-  pub window-valid : (c : Channel) → ValidWindow value_most (window_length_of st.settings) st.joint.count (at c (windows_in st))
+  pub window-valid : (c : Channel) → ValidWindow value_most (window_length_of st.settings) st.joint.count (at c st.windows)
   pub marks-valid : ValidWindow 1 (window_length_of st.settings) st.joint.count st.marks
   pub count-le : st.joint.count ≤ last_value
   pub same_count : (c : Channel) → (at c st.gatherers).count ≡ st.gatherers.a.count

@@ -15,9 +15,9 @@ use Rattle.three_reading.specs.declared.Three.{Three}
 use Rattle.three_reading.specs.Three.{at, any_of, Channel, channel}
 use Rattle.three_reading.specs.Three.Channel.{on_a, on_b, on_c}
 use Rattle.joint.specs.declared.Values.{Values}
-use Rattle.joint.specs.Joint.{three_of, sizes_of, joint_after, joint_due_at, pushed_all}
+use Rattle.joint.specs.Joint.{three_of, joint_after, joint_due_at, pushed_all}
 use Rattle.three_state.specs.declared.ThreeState.{ThreeState}
-use Rattle.three_state.specs.ThreeState.{windows_in, three_with}
+use Rattle.three_state.specs.ThreeState.{three_with}
 
 -- one value of each channel more; such values, newest first; the records due at them
 abbrev pub with_joint : Values → ThreeState → ThreeState
@@ -25,7 +25,7 @@ with_joint x st =
     let s = st.settings in
     let n = window_length_of s in
     let v = st.joint.count in
-    three_with s st.gatherers (joint_after s x st.joint (windows_in st) st.marks) (pushed_all n v (windows_in st) (sizes_of x))
+    three_with s st.gatherers (joint_after s x st.joint st.windows st.marks) (pushed_all n v st.windows x.sizes)
     (pushed n v st.marks (flag x.clipped))
 
 abbrev pub with_joints : List Values → ThreeState → ThreeState
@@ -36,11 +36,11 @@ abbrev pub due_on_three : List Values → ThreeState → List Record
 due_on_three [] st = []
 due_on_three (x ∷ xs) st =
     let before = with_joints xs st in
-    due_on_three xs st ++ joint_due_at st.settings x before.joint (windows_in before) before.marks
+    due_on_three xs st ++ joint_due_at st.settings x before.joint before.windows before.marks
 
 -- other gatherers
 abbrev pub with_gatherers : ThreeState → Three Gatherer → ThreeState
-with_gatherers st g = three_with st.settings g st.joint (windows_in st) st.marks
+with_gatherers st g = three_with st.settings g st.joint st.windows st.marks
 
 -- the part of each channel that triples are
 abbrev pub parts_of : List (Three ℤ) → Three Part
@@ -56,9 +56,7 @@ with_halves g p = record { a = with_half g.a p.a; b = with_half g.b p.b; c = wit
 -- one value of each channel, as the three that are told: clipped if any of them is
 abbrev pub jointly : (Channel → Marked) → Values
 jointly x = record {
-  a = (x on_a).value;
-  b = (x on_b).value;
-  c = (x on_c).value;
+  sizes = three_of (x on_a).value (x on_b).value (x on_c).value;
   clipped = any_of (three_of (x on_a).clipped (x on_b).clipped (x on_c).clipped);
 }
 

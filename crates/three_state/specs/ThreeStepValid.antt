@@ -22,10 +22,10 @@ use Rattle.three_reading.specs.declared.Three.{Three}
 use Rattle.three_reading.specs.Three.{Channel, at}
 use Rattle.three_reading.specs.Three.Channel.{on_a, on_b, on_c}
 use Rattle.joint.specs.declared.Values.{Values}
-use Rattle.joint.specs.Joint.{three_of, sizes_of, Small3, joint_after, pushed_all}
+use Rattle.joint.specs.Joint.{three_of, Small3, joint_after, pushed_all}
 use Rattle.joint.specs.JointValid.{joint_due_at-most, joint_after-valid, no_values-valid}
 use Rattle.three_state.specs.declared.ThreeState.{ThreeState}
-use Rattle.three_state.specs.ThreeState.{windows_in, no_samples, three_fresh, ValidThree}
+use Rattle.three_state.specs.ThreeState.{no_samples, three_fresh, ValidThree}
 use Rattle.three_state.specs.ThreeStep.{with_joint, with_joints, due_on_three, with_gatherers, with_parts, with_halves, values_with, values_out}
 use Rattle.three_state.specs.ThreeStep.{three_passes, three_half_due, three_half, three_part}
 
@@ -35,7 +35,7 @@ pushed_at on_a n v ws r = refl
 pushed_at on_b n v ws r = refl
 pushed_at on_c n v ws r = refl
 
-with_joint-valid : (x : Values) (st : ThreeState) → Small3 (sizes_of x) → st.joint.count < last_value → ValidThree st → ValidThree (with_joint x st)
+with_joint-valid : (x : Values) (st : ThreeState) → Small3 x.sizes → st.joint.count < last_value → ValidThree st → ValidThree (with_joint x st)
 unfolding joint_after
 with_joint-valid x st small below ok =
     let s = st.settings in
@@ -46,9 +46,9 @@ with_joint-valid x st small below ok =
     record {
       settings-valid = ok.settings-valid;
       gatherer-valid = ok.gatherer-valid;
-      joint-valid = joint_after-valid s x st.joint (windows_in st) st.marks small ok.window-valid ok.joint-valid;
+      joint-valid = joint_after-valid s x st.joint st.windows st.marks small ok.window-valid ok.joint-valid;
       window-valid = λ c.
-          rw (pushed_at c n v (windows_in st) (sizes_of x)) (pushed-valid n v (at c (sizes_of x)) (at c (windows_in st)) some most (small c) (ok.window-valid c));
+          rw (pushed_at c n v st.windows x.sizes) (pushed-valid n v (at c x.sizes) (at c st.windows) some most (small c) (ok.window-valid c));
       marks-valid = pushed-valid n v (flag x.clipped) st.marks some most (flag-most x.clipped) ok.marks-valid;
       count-le = below;
       same_count = ok.same_count;
@@ -108,7 +108,7 @@ module _ (st : ThreeState) (p : Three Part) (ok : ValidThree st) (fits : (c : Ch
           (λ c. rw (half_at c st.gatherers p))
           (λ c. rw (half_at c st.gatherers p))
 
-      value-at : (c : Channel) → at c (sizes_of (values_with m st.gatherers p)) ≡ (value_with m (own c) (at c p)).value
+      value-at : (c : Channel) → at c (values_with m st.gatherers p).sizes ≡ (value_with m (own c) (at c p)).value
       value-at on_a = refl
       value-at on_b = refl
       value-at on_c = refl
@@ -161,7 +161,7 @@ unfolding three_half_due
 three_half_due-most st p = go st.gatherers.a.whole
   where
     go : (b : Bool) → length (due_on_three (if b then values_with st.settings.samples st.gatherers p ∷ [] else []) st) ≤ 4
-    go true = joint_due_at-most st.settings (values_with st.settings.samples st.gatherers p) st.joint (windows_in st) st.marks
+    go true = joint_due_at-most st.settings (values_with st.settings.samples st.gatherers p) st.joint st.windows st.marks
     go false = omega arith
 
 pub three-within-end : (st : ThreeState) (p : Three Part) → st.joint.count < last_value → three_passes st p ≡ false

@@ -2,7 +2,7 @@
 // values. In specs/: what triples do to it.
 #![tactic(auto)]
 
-ghost use Rattle.std.specs.Prelude.{◌≡◌, length};
+ghost use Rattle.std.specs.Prelude.{◌≡◌};
 ghost use Rattle.settings.specs.Settings.{ValidSettings};
 ghost use Rattle.three_state.specs.ThreeState.{three_fresh, channel_readings_of, three_readings_of, ValidThree};
 
@@ -17,71 +17,64 @@ pub struct ThreeState {
     pub gatherers: Three<Gatherer>,
     pub joint: Joint,
     // The channels' windows, and the marks of the joint values in them.
-    pub a: [u32; 120],
-    pub b: [u32; 120],
-    pub c: [u32; 120],
+    pub windows: Three<[u32; 120]>,
     pub marks: [u8; 120],
 }
 
 // What look tells of one channel.
-fn look_at(settings: Settings, window: &[u32], count: u64) -> ChannelReadings
-    requires { length window.now ≡ 120 }
+fn look_at(settings: Settings, window: &[u32; 120], count: u64) -> ChannelReadings
     ensures { result ≡ channel_readings_of settings count window.now }
 {
     let window_length = settings.window_length();
     ChannelReadings {
         count,
-        value: window::newest(window, window_length, count) as u64,
+        value: u64::from(window::newest(window, window_length, count)),
         sum: state::full_sum(window, window_length, count),
     }
 }
 
 impl ThreeState {
     // Of a logger that has taken no triple.
+    #[tactic(auto, using(crate::specs::ThreeStepValid::three_fresh-valid), unfolding(crate::specs::ThreeState::three_fresh))]
     pub fn fresh(settings: Settings) -> ThreeState
         requires { ValidSettings settings }
         ensures { (result ≡ three_fresh settings) × ValidThree result }
     {
-        let none = Gatherer::new();
+        let gatherer = Gatherer::new();
+        let window = [0; 120];
         ThreeState {
             settings,
             gatherers: Three {
-                a: none,
-                b: none,
-                c: none,
+                a: gatherer,
+                b: gatherer,
+                c: gatherer,
             },
             joint: Joint::new(),
-            a: [0; 120],
-            b: [0; 120],
-            c: [0; 120],
+            windows: Three {
+                a: window,
+                b: window,
+                c: window,
+            },
             marks: [0; 120],
         }
     }
 
     // What look tells.
+    #[tactic(auto, unfolding(crate::specs::ThreeState::three_readings_of))]
     pub fn look(self) -> ThreeReadings
         requires { ValidThree self }
         ensures { result ≡ three_readings_of self }
     {
-        let settings = self.settings;
-        let joint = self.joint;
-        let a = self.a;
-        let b = self.b;
-        let c = self.c;
-        let count = joint.count;
-        let own = joint.a;
-        let phase = own.phase;
-        let dip = joint.dip;
-        let swell = joint.swell;
-        let interruption = joint.interruption;
+        let count = self.joint.count;
+        let standings = self.joint.standings;
         ThreeReadings {
-            a: look_at(settings, &a, count),
-            b: look_at(settings, &b, count),
-            c: look_at(settings, &c, count),
-            phase: state::phase_number(phase),
-            dip: 0 < dip.start,
-            swell: 0 < swell.start,
-            interruption: 0 < interruption.start,
+            a: look_at(self.settings, &self.windows.a, count),
+            b: look_at(self.settings, &self.windows.b, count),
+            c: look_at(self.settings, &self.windows.c, count),
+            phase: state::phase_number(self.joint.own.a.phase),
+            dip: 0 < standings.dip.start,
+            swell: 0 < standings.swell.start,
+            interruption: 0 < standings.interruption.start,
         }
     }
 }

@@ -9,5 +9,5 @@ go_on-moved-requires c =
 
 pub returns : goal.returns
 returns c =
-    tried-is c.requires (add-one c.args.self.count) c.standings-standings.ensures c.stands_at-stands.ensures c.enter-entered.ensures
-    c.window_length.ensures.0 c.go_on-moved.ensures c.due-due.ensures c.after_of-after.ensures c.sums_of-sums.ensures
+    tried-is c.requires (add-one c.args.self.count) c.step-after.ensures c.stands_at-stands.ensures c.enter-entered.ensures
+    c.window_length.ensures.0 c.go_on-moved.ensures c.due.ensures c.after_of.ensures c.sums_of.ensures
