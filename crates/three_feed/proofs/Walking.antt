@@ -26,7 +26,7 @@ use Rattle.joint.specs.Joint.{joint_sums_of}
 use Rattle.rms.specs.declared.Gatherer.{Gatherer}
 use Rattle.rms.specs.declared.Part.{Part}
 use Rattle.three_state.specs.declared.ThreeState.{ThreeState}
-use Rattle.three_state.specs.ThreeState.{windows_in, three_with, ValidThree}
+use Rattle.three_state.specs.ThreeState.{three_with, ValidThree}
 use Rattle.three_state.specs.ThreeStep.{parts_of, with_halves, three_passes, three_half_due, three_half, three_part, three_why_not, three_machine}
 use Rattle.three_state.proofs.ThreeStepLaws.{three_cuts}
 use Rattle.three_state.specs.ThreeStepValid.{three_part-valid, three_half-valid}
@@ -298,7 +298,7 @@ module _ {s : Settings} {ws₀ : Three (List ℕ)} {ms₀ : List ℕ} {block : L
               Walking s ws₀ ms₀ block lent g₀ j₀ ws₁ ms₁ back lanes₁ g₁ h.joint h.sums (from + n) (written + h.written) share₁
           walk-turns share₁ lanes₁ cut-is lanes-long kept =
               walking s ws₀ ms₀ block lent g₀ j₀ ws₁ ms₁ back lanes₁ g₁ h.joint h.sums (from + n) (written + h.written) share₁ next
-              (ap (λ (o : HalfOutcome). o.sums) took.1 ∙ ap (λ (z : ThreeState). joint_sums_of (windows_in z) z.marks) after_is)
+              (ap (λ (o : HalfOutcome). o.sums) took.1 ∙ ap (λ (z : ThreeState). joint_sums_of z.windows z.marks) after_is)
               (cut-is ∙ ap (λ (l : List (Three ℤ)). cut s.samples g₁.a (channel on_a l)) (triples-behind (from + n) block))
               lanes-long (same-records part kept) whole-triples
 
@@ -312,7 +312,7 @@ module _ {s : Settings} {ws₀ : Three (List ℕ)} {ms₀ : List ℕ} {block : L
             let some_in : 0 < n = share-some in
             let long : length (take (n - 1) rest) ≡ n - 1 = part-long from (n - 1) xs (omega (arith, inv.share_in)) in
             walk-last last (take (n - 1) rest) _ (from + n - 1) (Some stop) ws₁ ms₁ back ended (triples-between from (n - 1) (from + n - 1) block (omega arith))
-            (omega (arith, inv.within.fits)) (ap windows_in stopped.1) (ap (λ (z : ThreeState). z.marks) stopped.1) (n - 1) (omega arith)
+            (omega (arith, inv.within.fits)) (ap (λ (z : ThreeState). z.windows) stopped.1) (ap (λ (z : ThreeState). z.marks) stopped.1) (n - 1) (omega arith)
             (feed-stops three_cuts st rest left (inv.so_far.valid.gatherer-valid on_a).0 share inv.cut-is completes (stop_number stop) stopped.0 some)
             (back_is ∙ ap (λ (l : List ℕ). take behind out ++ l) stopped.2)
 

@@ -5,7 +5,6 @@ ghost use Rattle.std.specs.Prelude.{◌≡◌, ◌/◌, ◌%◌, ◌<◌, length
 ghost use Rattle.rms.specs.Gather.{cut as cut_of};
 ghost use Rattle.three_reading.specs.Three.{triples_of, channel};
 ghost use Rattle.three_reading.specs.Three.Channel.{on_a};
-ghost use Rattle.joint.specs.Joint.{three_of};
 ghost use Rattle.three_state.specs.ThreeState.{three_with, ValidThree};
 ghost use Rattle.three_state.specs.ThreeFed.{three_fed_with};
 ghost use Rattle.lanes.specs.Lanes.{SquaresFit};
@@ -73,18 +72,16 @@ pub fn walk(
     settings: Settings,
     gatherers: Three<Gatherer>,
     joint: Joint,
-    a: &mut [u32; 120],
-    b: &mut [u32; 120],
-    c: &mut [u32; 120],
+    windows: &mut Three<[u32; 120]>,
     marks: &mut [u8; 120],
     block: &[i16],
     records: &mut [u8],
 ) -> ThreeWalked
-    requires { ValidThree (three_with settings gatherers joint (three_of a.old b.old c.old) marks.old) × (length block.now % 3 ≡ 0) }
-    ensures { (walked_of settings result (three_of a.new b.new c.new) marks.new records.new
-        ≡ three_fed_with (three_with settings gatherers joint (three_of a.old b.old c.old) marks.old)
+    requires { ValidThree (three_with settings gatherers joint windows.old marks.old) × (length block.now % 3 ≡ 0) }
+    ensures { (walked_of settings result windows.new marks.new records.new
+        ≡ three_fed_with (three_with settings gatherers joint windows.old marks.old)
         (triples_of block.now) records.old)
-        × ValidThree (three_with settings result.gatherers result.joint (three_of a.new b.new c.new) marks.new) }
+        × ValidThree (three_with settings result.gatherers result.joint windows.new marks.new) }
 {
     let scaled = settings.scaled();
     let half_length = settings.samples;
@@ -95,9 +92,11 @@ pub fn walk(
     let mut g = gatherers;
     let mut kept = joint;
     let mut sums = JointSums {
-        a: window::sum_of(a),
-        b: window::sum_of(b),
-        c: window::sum_of(c),
+        values: Three {
+            a: window::sum_of(&windows.a),
+            b: window::sum_of(&windows.b),
+            c: window::sum_of(&windows.c),
+        },
         marks: window::sum_of(marks),
     };
     let mut at: usize = 0;
@@ -115,9 +114,7 @@ pub fn walk(
             g,
             kept,
             sums,
-            a,
-            b,
-            c,
+            windows,
             marks,
             parts,
             &mut records[behind..],

@@ -23,9 +23,9 @@ use Rattle.joint.specs.declared.Joint.{Joint}
 use Rattle.joint.specs.declared.JointSums.{JointSums}
 use Rattle.joint.specs.declared.JointTried.{JointTried}
 use Rattle.joint.specs.declared.Values.{Values}
-use Rattle.joint.specs.Joint.{sizes_of, Small3, joint_sums_of, joint_tried_by, joint_due_at, pushed_all, JointReady}
+use Rattle.joint.specs.Joint.{Small3, joint_sums_of, joint_tried_by, joint_due_at, pushed_all, JointReady}
 use Rattle.three_state.specs.declared.ThreeState.{ThreeState}
-use Rattle.three_state.specs.ThreeState.{windows_in, three_with}
+use Rattle.three_state.specs.ThreeState.{three_with}
 use Rattle.three_state.specs.ThreeStep.{with_joints, due_on_three, with_gatherers, with_halves, values_with, values_out}
 use Rattle.three_state.specs.ThreeStep.{three_passes, three_half_due, three_half, three_why_not}
 use Rattle.three_half.specs.declared.Half.{Half}
@@ -51,7 +51,7 @@ module _ {s : Settings} {t : Scaled} {g : Three Gatherer} {j : Joint} {a : Joint
     half-le = λ c. omega (arith, sum-at pre c, ap (λ (h : Three Gatherer). (at c h).last) are, ap (λ (h : Gatherer). h.last) (half_at c g p));
   }
 
-  pub ready : (x : Values) → Small3 (sizes_of x) → (j.count ≡ last_value → ⊥) → JointReady s t j ws ms a x
+  pub ready : (x : Values) → Small3 x.sizes → (j.count ≡ last_value → ⊥) → JointReady s t j ws ms a x
   ready x small more = record {
     settings-valid = pre.valid.settings-valid;
     scaled-is = pre.scaled-is;
@@ -84,8 +84,8 @@ module _ {s : Settings} {t : Scaled} {g : Three Gatherer} {j : Joint} {a : Joint
         out ≡ over (record_bytes (three_half_due st p)) lent → IsTaken j₁ sums written ws₁ ms₁ out
     unfolding half_outcome
     taken j₁ sums written ws₁ ms₁ out why after_is sums-are written_is bytes-are =
-        let sums-is : sums ≡ joint_sums_of (windows_in (three_half st p)) (three_half st p).marks =
-        sums-are ∙ ap (λ (z : ThreeState). joint_sums_of (windows_in z) z.marks) after_is in
+        let sums-is : sums ≡ joint_sums_of (three_half st p).windows (three_half st p).marks =
+        sums-are ∙ ap (λ (z : ThreeState). joint_sums_of z.windows z.marks) after_is in
         (λ i. record { after = after_is i; sums = sums-is i; written = written_is i; why = 0; bytes = bytes-are i })
         ∙ sym (ap (λ (k : ℕ). half_by k st p lent) why)
 
@@ -148,11 +148,11 @@ module _ {s : Settings} {t : Scaled} {g : Three Gatherer} {j : Joint} {a : Joint
 
           -- it is taken
           pub taken-half : written ≤ room lent → (n mark : ℕ) → n ≡ window_length_of s → mark ≡ flag x.clipped → (ws₁ : Three (List ℕ)) (ms₁ out : List ℕ) →
-              ws₁ ≡ pushed_all n j.count ws (sizes_of x) → ms₁ ≡ pushed n j.count ms mark → out ≡ over (record_bytes (records_of tried.due)) lent →
+              ws₁ ≡ pushed_all n j.count ws x.sizes → ms₁ ≡ pushed n j.count ms mark → out ≡ over (record_bytes (records_of tried.due)) lent →
               IsTaken tried.after tried.sums written ws₁ ms₁ out
           unfolding three_half
           taken-half fits n mark n-is mark_is ws₁ ms₁ out pushed-all pushed-mark bytes-are =
-              let windows-are : ws₁ ≡ pushed_all (window_length_of s) j.count ws (sizes_of x) = pushed-all ∙ (λ i. pushed_all (n-is i) j.count ws (sizes_of x)) in
+              let windows-are : ws₁ ≡ pushed_all (window_length_of s) j.count ws x.sizes = pushed-all ∙ (λ i. pushed_all (n-is i) j.count ws x.sizes) in
               let marks_are : ms₁ ≡ pushed (window_length_of s) j.count ms (flag x.clipped) =
               pushed-mark ∙ (λ i. pushed (n-is i) j.count ms (mark_is i)) in
               let after_is : three_with s (with_halves g p) tried.after ws₁ ms₁ ≡ three_half st p =

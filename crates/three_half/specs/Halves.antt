@@ -19,7 +19,7 @@ use Rattle.joint.specs.declared.JointSums.{JointSums}
 use Rattle.joint.specs.declared.Values.{Values}
 use Rattle.joint.specs.Joint.{three_of, joint_sums_of}
 use Rattle.three_state.specs.declared.ThreeState.{ThreeState}
-use Rattle.three_state.specs.ThreeState.{windows_in, three_with, ValidThree}
+use Rattle.three_state.specs.ThreeState.{three_with, ValidThree}
 use Rattle.three_state.specs.ThreeStep.{with_halves, three_half_due, three_half, three_why_not}
 use Rattle.three_half.specs.declared.Half.{Half}
 
@@ -42,12 +42,12 @@ pub record HalfOutcome : Type 0 where
 abbrev pub half_by : ℕ → ThreeState → Three Part → List ℕ → HalfOutcome
 half_by zero st p lent = record {
   after = three_half st p;
-  sums = joint_sums_of (windows_in (three_half st p)) (three_half st p).marks;
+  sums = joint_sums_of (three_half st p).windows (three_half st p).marks;
   written = length (three_half_due st p);
   why = 0;
   bytes = over (record_bytes (three_half_due st p)) lent;
 }
-half_by (suc y) st p lent = record { after = st; sums = joint_sums_of (windows_in st) st.marks; written = 0; why = suc y; bytes = lent }
+half_by (suc y) st p lent = record { after = st; sums = joint_sums_of st.windows st.marks; written = 0; why = suc y; bytes = lent }
 
 unfoldable pub half_outcome : ThreeState → Three Part → List ℕ → HalfOutcome
 half_outcome st p lent = half_by (three_why_not st p (room lent)) st p lent
@@ -71,9 +71,7 @@ clipped_at g h c = (at c g).last_clipped || (at c h).last_clipped
 
 abbrev pub values_by : ℕ → Three Gatherer → Three Gatherer → Values
 values_by m g h = record {
-  a = size_at m g h on_a;
-  b = size_at m g h on_b;
-  c = size_at m g h on_c;
+  sizes = three_of (size_at m g h on_a) (size_at m g h on_b) (size_at m g h on_c);
   clipped = any_of (three_of (clipped_at g h on_a) (clipped_at g h on_b) (clipped_at g h on_c));
 }
 

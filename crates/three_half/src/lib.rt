@@ -3,7 +3,7 @@
 
 ghost use Rattle.std.specs.Prelude.{◌≡◌, ◌*◌, ◌^◌, ◌≤◌, ◌<◌};
 ghost use Rattle.reading.specs.Values.{rms};
-ghost use Rattle.joint.specs.Joint.{three_of, sizes_of, Small3, pushed_all};
+ghost use Rattle.joint.specs.Joint.{Small3, pushed_all};
 ghost use Rattle.three_state.specs.ThreeState.{three_with};
 ghost use Rattle.three_state.specs.ThreeStep.{with_halves};
 ghost use Rattle.three_half.specs.Halves.{HalfReady, half_of, half_outcome, SumsFit, ValuesReady, values_by};
@@ -55,18 +55,18 @@ fn values_of(
     settings: Settings,
     gatherers: Three<Gatherer>,
     halves: Three<Gatherer>,
-    a: &[u32; 120],
-    b: &[u32; 120],
-    c: &[u32; 120],
+    windows: &Three<[u32; 120]>,
     count: u64,
 ) -> Values
     requires { ValuesReady settings gatherers halves }
-    ensures { (result ≡ values_by settings.samples gatherers halves) × Small3 (sizes_of result) }
+    ensures { (result ≡ values_by settings.samples gatherers halves) × Small3 result.sizes }
 {
     Values {
-        a: value_of(settings, gatherers.a, halves.a, a, count),
-        b: value_of(settings, gatherers.b, halves.b, b, count),
-        c: value_of(settings, gatherers.c, halves.c, c, count),
+        sizes: Three {
+            a: value_of(settings, gatherers.a, halves.a, &windows.a, count),
+            b: value_of(settings, gatherers.b, halves.b, &windows.b, count),
+            c: value_of(settings, gatherers.c, halves.c, &windows.c, count),
+        },
         clipped: (gatherers.a.last_clipped | halves.a.last_clipped)
             | ((gatherers.b.last_clipped | halves.b.last_clipped)
                 | (gatherers.c.last_clipped | halves.c.last_clipped)),
@@ -77,18 +77,15 @@ fn values_of(
 fn push_values(
     window_length: usize,
     count: usize,
-    a: &mut [u32; 120],
-    b: &mut [u32; 120],
-    c: &mut [u32; 120],
-    values: Values,
+    windows: &mut Three<[u32; 120]>,
+    sizes: Three<u32>,
 )
     requires { (0 < window_length) × (window_length ≤ 120) }
-    ensures { three_of a.new b.new c.new
-        ≡ pushed_all window_length count (three_of a.old b.old c.old) (sizes_of values) }
+    ensures { windows.new ≡ pushed_all window_length count windows.old sizes }
 {
-    window::push(a, window_length, count, values.a);
-    window::push(b, window_length, count, values.b);
-    window::push(c, window_length, count, values.c);
+    window::push(&mut windows.a, window_length, count, sizes.a);
+    window::push(&mut windows.b, window_length, count, sizes.b);
+    window::push(&mut windows.c, window_length, count, sizes.c);
 }
 
 // A part of each channel ends the half-cycle in progress. Nothing changes where V would pass its end or the records do not fit.
@@ -98,16 +95,14 @@ pub fn complete(
     gatherers: Three<Gatherer>,
     joint: Joint,
     sums: JointSums,
-    a: &mut [u32; 120],
-    b: &mut [u32; 120],
-    c: &mut [u32; 120],
+    windows: &mut Three<[u32; 120]>,
     marks: &mut [u8; 120],
     parts: Three<Part>,
     records: &mut [u8],
 ) -> Result<Half, Stop>
-    requires { HalfReady settings scaled gatherers joint sums (three_of a.old b.old c.old) marks.old parts }
-    ensures { half_of settings gatherers joint sums parts result (three_of a.new b.new c.new) marks.new records.new
-        ≡ half_outcome (three_with settings gatherers joint (three_of a.old b.old c.old) marks.old) parts records.old }
+    requires { HalfReady settings scaled gatherers joint sums windows.old marks.old parts }
+    ensures { half_of settings gatherers joint sums parts result windows.new marks.new records.new
+        ≡ half_outcome (three_with settings gatherers joint windows.old marks.old) parts records.old }
 {
     let halves = halves_of(gatherers, parts);
     if !gatherers.a.whole {
@@ -121,15 +116,15 @@ pub fn complete(
     if count == LAST_VALUE {
         return Err(Stop::End);
     }
-    let values = values_of(settings, gatherers, halves, a, b, c, count);
-    let tried = joint.try_values(settings, scaled, a, b, c, marks, sums, values);
+    let values = values_of(settings, gatherers, halves, windows, count);
+    let tried = joint.try_values(settings, scaled, windows, marks, sums, values);
     let due = tried.due;
     let written = due.count();
     if records.len() / RECORD_LENGTH < written {
         return Err(Stop::Room);
     }
     let length = settings.window_length() as usize;
-    push_values(length, count as usize, a, b, c, values);
+    push_values(length, count as usize, windows, values.sizes);
     window::push_mark(
         marks,
         length,

@@ -60,17 +60,13 @@ impl ThreeLogger {
                 answer: Err(Refusal::PartTriple),
             };
         }
-        let mut a = self.state.a;
-        let mut b = self.state.b;
-        let mut c = self.state.c;
+        let mut windows = self.state.windows;
         let mut marks = self.state.marks;
         let walked = three_feed::walk(
             self.state.settings,
             self.state.gatherers,
             self.state.joint,
-            &mut a,
-            &mut b,
-            &mut c,
+            &mut windows,
             &mut marks,
             block,
             records,
@@ -82,9 +78,7 @@ impl ThreeLogger {
                     settings: self.state.settings,
                     gatherers: walked.gatherers,
                     joint: walked.joint,
-                    a,
-                    b,
-                    c,
+                    windows,
                     marks,
                 },
             },

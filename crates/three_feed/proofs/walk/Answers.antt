@@ -22,9 +22,9 @@ cut_of-share-requires c = (c.requires.0.gatherer-valid on_a).0
 pub loop-share-init : goal.loop-share-init
 loop-share-init c =
     let a = c.args in
-    walk-starts a.settings (three_of a.a.now a.b.now a.c.now) a.marks.now a.block.now a.records.now a.gatherers a.joint
+    walk-starts a.settings a.windows.now a.marks.now a.block.now a.records.now a.gatherers a.joint
     c.requires.0 c.requires.1 _ c.cut_of-share.result _
-    (λ i. record { a = c.sum_of.ensures i; b = c.sum_of-2.ensures i; c = c.sum_of-3.ensures i; marks = c.sum_of-4.ensures i })
+    (λ i. record { values = three_of (c.sum_of.ensures i) (c.sum_of-2.ensures i) (c.sum_of-3.ensures i); marks = c.sum_of-4.ensures i })
     c.cut_of-share.ensures (three-long _ refl refl refl)
 
 pub complete-requires : goal.complete-requires

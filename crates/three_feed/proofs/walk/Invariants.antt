@@ -7,7 +7,7 @@ use Rattle.three_feed.proofs.walk.Given as goal
 
 abbrev pub invariant-loop-share : goal.invariant-loop-share
 invariant-loop-share l =
-    Walking l.settings (three_of l.initial.a l.initial.b l.initial.c) l.initial.marks l.block l.initial.records l.initial.g l.initial.kept (three_of l.a l.b l.c) l.marks l.records (three_of l.lane_a l.lane_b l.lane_c) l.g l.kept l.sums l.at l.written l.share
+    Walking l.settings l.initial.windows l.initial.marks l.block l.initial.records l.initial.g l.initial.kept l.windows l.marks l.records (three_of l.lane_a l.lane_b l.lane_c) l.g l.kept l.sums l.at l.written l.share
 
 abbrev pub decreases-loop-share : goal.decreases-loop-share
 decreases-loop-share l =

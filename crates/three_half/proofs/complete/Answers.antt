@@ -55,5 +55,5 @@ returns c =
     taken-half c.requires c.args.records.now c.if-not-whole.false c.if-count-eq-LAST_VALUE.false halves.result halves.ensures
     values.result values.ensures.0 tried.result tried.ensures written.result written.ensures (omega (arith, c.if-records-written.false))
     n.result c.flag.result n.ensures.0 c.flag.ensures
-    (three_of pushed.new.a pushed.new.b pushed.new.c) c.push_mark.new.marks c.put.new.buffer
+    pushed.new.windows c.push_mark.new.marks c.put.new.buffer
     pushed.ensures c.push_mark.ensures c.put.ensures

@@ -31,6 +31,6 @@ returns c =
     let x = c.value_of.ensures in
     let y = c.value_of-2.ensures in
     let z = c.value_of-3.ensures in (
-      λ i. record { a = x.0 i; b = y.0 i; c = z.0 i; clipped = (values_by a.settings.samples a.gatherers a.halves).clipped },
+      λ i. record { sizes = three_of (x.0 i) (y.0 i) (z.0 i); clipped = (values_by a.settings.samples a.gatherers a.halves).clipped },
       small x.1 y.1 z.1,
     )
