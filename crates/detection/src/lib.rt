@@ -1,15 +1,15 @@
 // One value: what is kept of the values beside the window, after it, and the records due at it.
 #![tactic(auto)]
 
-ghost use Rattle.std.specs.Prelude.{◌≡◌, ◌≤◌, ◌<◌, length, if◌then◌else◌};
+ghost use Rattle.std.specs.Prelude.{◌≡◌, ◌≤◌, ◌<◌, if◌then◌else◌};
 ghost use Rattle.numbers.specs.Notation.{◌<ᵇ◌};
 ghost use Rattle.threshold.specs.Standing.{begins_at, ends_at, stepped};
-ghost use Rattle.window.specs.Window.{leaving as leaving_of, staying};
+ghost use Rattle.window.specs.Window.{staying};
 ghost use Rattle.reading.specs.Feed.{last_value};
 ghost use Rattle.rvc.specs.Phase.{moved_on, Joins};
 ghost use Rattle.detection.specs.Detection.{no_value, stands_at, joined_of, tried_by, WindowReady, TryReady};
 
-use reading::{Event, Kind};
+use reading::Kind;
 use records::Due;
 use rms::Marked;
 use rvc::{Joining, Moved, Phase, Stands};
@@ -47,7 +47,7 @@ fn standing_after(before: Standing, kind: Kind, level: Threshold, i: u64, value:
     requires { value.value ≤ 524288 }
     ensures { result ≡ stepped kind i value.value value.clipped (begins_at kind level value.value) (ends_at kind level value.value) before }
 {
-    let wide = value.value as u64;
+    let wide = u64::from(value.value);
     before.step(
         kind,
         i,
@@ -81,34 +81,19 @@ pub fn first_staying(count: u64, window_length: u64) -> usize
     if count < window_length { 0 } else { 1 }
 }
 
-// The value that leaves the window then, 0 where none does.
-fn leaving_value(count: u64, window_length: u64, window: &[u32]) -> u64
-    requires { 0 < length window.now }
-    ensures { result ≡ leaving_of window_length count window.now }
+// What leaves the window or its marks then, of which `oldest` is the first; 0 where none does.
+fn leaving(count: u64, window_length: u64, oldest: u64) -> u64
+    ensures { result ≡ (if count <ᵇ window_length then 0 else oldest) }
 {
-    if count < window_length {
-        return 0;
-    }
-    window[0] as u64
-}
-
-// The mark of that value, 0 where none leaves.
-fn leaving_mark(count: u64, window_length: u64, marks: &[u8]) -> u64
-    requires { 0 < length marks.now }
-    ensures { result ≡ leaving_of window_length count marks.now }
-{
-    if count < window_length {
-        return 0;
-    }
-    marks[0] as u64
+    if count < window_length { 0 } else { oldest }
 }
 
 // A value that joins a window after `count` others, worked out from the window before it, its marks and its sums.
 pub fn join_window(
     window_length: u64,
     count: u64,
-    window: &[u32],
-    marks: &[u8],
+    window: &[u32; 120],
+    marks: &[u8; 120],
     sums: Sums,
     value: Marked,
     stands: Stands,
@@ -116,14 +101,14 @@ pub fn join_window(
     requires { (0 < window_length) × (window_length ≤ 120) × (count < last_value) × WindowReady window_length count window.now marks.now sums value }
     ensures { result ≡ joined_of window_length count window.now marks.now value stands }
 {
-    let leaving = leaving_value(count, window_length, window);
-    let mark = leaving_mark(count, window_length, marks);
-    let after = sums.values - leaving + value.value as u64;
-    let marked = sums.marks - mark + numbers::flag(value.clipped) as u64;
+    let leaves = leaving(count, window_length, u64::from(window[0]));
+    let mark = leaving(count, window_length, u64::from(marks[0]));
+    let after = sums.values - leaves + u64::from(value.value);
+    let marked = sums.marks - mark + u64::from(value.clipped);
     let joining = Joining {
         number: count + 1,
         value: value.value,
-        leaving,
+        leaving: leaves,
         mark,
         before: sums.values,
         after,
@@ -157,10 +142,10 @@ impl Detector {
         self,
         scaled: Scaled,
         window_length: u64,
-        window: &[u32],
+        window: &[u32; 120],
         joining: Joining,
     ) -> Moved
-        requires { Joins scaled window_length joining self.phase × (length window.now ≡ 120) }
+        requires { Joins scaled window_length joining self.phase }
         ensures { result ≡ moved_on scaled window_length (staying window_length self.count window.now) joining self.phase }
     {
         let phase = self.phase;
@@ -174,8 +159,8 @@ impl Detector {
         self,
         settings: Settings,
         scaled: Scaled,
-        window: &[u32],
-        marks: &[u8],
+        window: &[u32; 120],
+        marks: &[u8; 120],
         sums: Sums,
         value: Marked,
     ) -> Tried
@@ -215,11 +200,9 @@ impl Detector {
             phase,
         };
         let due = Due {
-            dip: self.dip.ended(Event::DIP, i, dip),
-            swell: self.swell.ended(Event::SWELL, i, swell),
-            interruption: self
-                .interruption
-                .ended(Event::INTERRUPTION, i, interruption),
+            dip: self.dip.ended(Kind::Dip, i, dip),
+            swell: self.swell.ended(Kind::Swell, i, swell),
+            interruption: self.interruption.ended(Kind::Interruption, i, interruption),
             change,
         };
         let sums = joined.sums;

@@ -11,9 +11,7 @@ join_window-joined-requires c =
     (omega (arith, n.1), n.2, ready.count-lt, window-ready-at ready n.0)
 
 pub phase_after-moved-requires : goal.phase_after-moved-requires
-phase_after-moved-requires c =
-    let ready = c.requires in
-    (phase-joins ready c.window_length-window_length.ensures.0 c.join_window-joined.ensures, ready.window-ready.window-valid.size)
+phase_after-moved-requires c = phase-joins c.requires c.window_length-window_length.ensures.0 c.join_window-joined.ensures
 
 pub returns : goal.returns
 returns c =
