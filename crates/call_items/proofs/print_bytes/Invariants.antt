@@ -1,6 +1,6 @@
 -- Each part is as long as is printed at a time, at most.
 use Rattle.std.proofs.Common.{◌≡◌}
-use Rattle.core.specs.Slice.Iter.{chunks_size}
+use Rattle.std.specs.Slice.Iter.{chunks_size}
 use Rattle.call_items.proofs.print_bytes.Given as goal
 
 abbrev pub invariant-loop-part : goal.invariant-loop-part
