@@ -54,9 +54,9 @@ impl Calls {
     fn look(&self, rt: HostRuntime) {
         let readings = self.logger.look();
         call_items::print(rt, "look");
-        print_channel(rt, readings.a);
-        print_channel(rt, readings.b);
-        print_channel(rt, readings.c);
+        print_channel(rt, readings.channels.a);
+        print_channel(rt, readings.channels.b);
+        print_channel(rt, readings.channels.c);
         call_items::print_standing(
             rt,
             readings.phase,

@@ -99,12 +99,11 @@ fn finish(rt: HostRuntime, logger: ThreeLogger, why: u32)
     requires { ValidThree logger.state }
 {
     let readings = logger.look();
-    let a = readings.a;
     event_lines::finish(
         rt,
         &NAME,
         Ending {
-            count: a.count,
+            count: readings.channels.a.count,
             dip: readings.dip,
             swell: readings.swell,
             interruption: readings.interruption,

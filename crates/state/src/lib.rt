@@ -5,10 +5,11 @@ ghost use Rattle.std.specs.Prelude.{◌≡◌, ◌≤◌, length, take, if◌the
 ghost use Rattle.numbers.specs.Notation.{◌<ᵇ◌};
 ghost use Rattle.settings.specs.Settings.{ValidSettings};
 ghost use Rattle.reading.specs.Changes.{sum as sum_of};
+ghost use Rattle.reading.specs.Readings.{phase_kind_number, readings_in};
 ghost use Rattle.state.specs.State.{fresh as fresh_of, phase_number_of, readings_of, ValidState};
 
 use detection::Detector;
-use reading::Readings;
+use reading::{PhaseKind, Readings};
 use rms::Gatherer;
 use rvc::Phase;
 use settings::Settings;
@@ -33,15 +34,15 @@ pub fn full_sum(window: &[u32], window_length: u64, count: u64) -> u64
     window::sum_of(&window[0..window_length as usize])
 }
 
-// 01's number of a phase.
-pub fn phase_number(phase: Phase) -> u8
-    ensures { result ≡ phase_number_of phase }
+// A phase without what it carries.
+pub fn phase_kind(phase: Phase) -> PhaseKind
+    ensures { phase_kind_number result ≡ phase_number_of phase }
 {
     match phase {
-        Phase::Filling => 0,
-        Phase::Unsettled => 1,
-        Phase::Steady => 2,
-        Phase::Changing(_) => 3,
+        Phase::Filling => PhaseKind::Filling,
+        Phase::Unsettled => PhaseKind::Unsettled,
+        Phase::Steady => PhaseKind::Steady,
+        Phase::Changing(_) => PhaseKind::Changing,
     }
 }
 
@@ -63,7 +64,7 @@ impl State {
     // What look tells.
     pub fn look(self) -> Readings
         requires { ValidState self }
-        ensures { result ≡ readings_of self }
+        ensures { readings_in result ≡ readings_of self }
     {
         let settings = self.settings;
         let detector = self.detector;
@@ -78,7 +79,7 @@ impl State {
             count,
             value: window::newest(&window, window_length, count) as u64,
             sum: full_sum(&window, window_length, count),
-            phase: phase_number(phase),
+            phase: phase_kind(phase),
             dip: 0 < dip.start,
             swell: 0 < swell.start,
             interruption: 0 < interruption.start,

@@ -1,4 +1,5 @@
 pub mod Three
+pub mod ThreeReadings
 pub mod JointEvents
 pub mod JointChanges
 pub mod JointRecords

@@ -2,7 +2,7 @@
 use Rattle.std.specs.Prelude.{List, ℕ, ℤ}
 use Rattle.numbers.specs.Answers.{Answered}
 use Rattle.reading.specs.Told.{Told}
-use Rattle.three_reading.specs.declared.ThreeReadings.{ThreeReadings}
+use Rattle.three_reading.specs.ThreeReadings.{ThreeReadings}
 
 -- what a feed leaves: who was fed, what it tells or its refusal, and the record buffer
 pub record ThreeOutcome (L : Type 0) : Type 0 where

@@ -12,7 +12,7 @@ use Rattle.reading.specs.Records.{record_bytes}
 use Rattle.reading.specs.Image.{phase_number}
 use Rattle.reading.specs.Engineer.{over, room}
 use Rattle.three_reading.specs.declared.ChannelReadings.{ChannelReadings}
-use Rattle.three_reading.specs.declared.ThreeReadings.{ThreeReadings}
+use Rattle.three_reading.specs.ThreeReadings.{ThreeReadings}
 use Rattle.three_reading.specs.declared.Three.{Three}
 use Rattle.three_reading.specs.Three.{triples_of, channel, joint_values}
 use Rattle.three_reading.specs.Three.Channel.{on_a, on_b, on_c}

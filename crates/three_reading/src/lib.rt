@@ -5,6 +5,8 @@ ghost use Rattle.std.specs.Prelude.{◌≡◌};
 ghost use Rattle.three_reading.specs.Three.{any_of, all_of};
 ghost use Rattle.three_reading.specs.ThreeBench.{ThreeBenchReadings};
 
+use reading::PhaseKind;
+
 // One of each channel.
 #[derive(Clone, Copy)]
 pub struct Three<T> {
@@ -50,13 +52,11 @@ pub struct ChannelReadings {
     pub sum: u64,
 }
 
-// What look tells: each channel's, the joint phase's number, and the joint events that stand.
+// What look tells: each channel's, the joint phase, and the joint events that stand.
 #[derive(Clone, Copy)]
 pub struct ThreeReadings {
-    pub a: ChannelReadings,
-    pub b: ChannelReadings,
-    pub c: ChannelReadings,
-    pub phase: u8,
+    pub channels: Three<ChannelReadings>,
+    pub phase: PhaseKind,
     pub dip: bool,
     pub swell: bool,
     pub interruption: bool,

@@ -12,7 +12,7 @@ use Rattle.rms.specs.Gather.{no_sample, gatherer_of, ValidGatherer}
 use Rattle.window.specs.Window.{window_of, ValidWindow}
 use Rattle.state.specs.State.{phase_number_of}
 use Rattle.three_reading.specs.declared.ChannelReadings.{ChannelReadings}
-use Rattle.three_reading.specs.declared.ThreeReadings.{ThreeReadings}
+use Rattle.three_reading.specs.ThreeReadings.{ThreeReadings}
 use Rattle.three_reading.specs.declared.Three.{Three}
 use Rattle.three_reading.specs.Three.{Channel, at, channel, joint_count, joint_marks, joint_values}
 use Rattle.three_reading.specs.Three.Channel.{on_a, on_b, on_c}

@@ -4,6 +4,7 @@
 
 ghost use Rattle.std.specs.Prelude.{◌≡◌};
 ghost use Rattle.settings.specs.Settings.{ValidSettings};
+ghost use Rattle.three_reading.specs.ThreeReadings.{three_readings_in};
 ghost use Rattle.three_state.specs.ThreeState.{three_fresh, channel_readings_of, three_readings_of, ValidThree};
 
 use joint::Joint;
@@ -35,7 +36,6 @@ fn look_at(settings: Settings, window: &[u32; 120], count: u64) -> ChannelReadin
 
 impl ThreeState {
     // Of a logger that has taken no triple.
-    #[tactic(auto, using(crate::specs::ThreeStepValid::three_fresh-valid), unfolding(crate::specs::ThreeState::three_fresh))]
     pub fn fresh(settings: Settings) -> ThreeState
         requires { ValidSettings settings }
         ensures { (result ≡ three_fresh settings) × ValidThree result }
@@ -63,15 +63,13 @@ impl ThreeState {
     #[tactic(auto, unfolding(crate::specs::ThreeState::three_readings_of))]
     pub fn look(self) -> ThreeReadings
         requires { ValidThree self }
-        ensures { result ≡ three_readings_of self }
+        ensures { three_readings_in result ≡ three_readings_of self }
     {
         let count = self.joint.count;
         let standings = self.joint.standings;
         ThreeReadings {
-            a: look_at(self.settings, &self.windows.a, count),
-            b: look_at(self.settings, &self.windows.b, count),
-            c: look_at(self.settings, &self.windows.c, count),
-            phase: state::phase_number(self.joint.own.a.phase),
+            channels: self.windows.map(|window: [u32; 120]| look_at(self.settings, &window, count)),
+            phase: state::phase_kind(self.joint.own.a.phase),
             dip: 0 < standings.dip.start,
             swell: 0 < standings.swell.start,
             interruption: 0 < standings.interruption.start,
