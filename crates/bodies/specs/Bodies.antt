@@ -71,6 +71,9 @@ detector_from v ns = record {
 abbrev pub table_refusal : ℕ → List ℕ → ℕ
 table_refusal c b = refuse 9 unless same_bytes b (table_with c) then 0
 
+abbrev pub table_answer : ℕ → List ℕ → Answered (Unit {0})
+table_answer c b = answered (table_refusal c b) tt
+
 -- that of a body behind it: 11 where it breaks a rule
 abbrev pub body_refusal : Rule → ℕ
 body_refusal rule = refuse 11 unless passes rule then 0

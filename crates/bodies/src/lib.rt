@@ -4,11 +4,11 @@
 
 ghost use Rattle.std.specs.Prelude.{◌≡◌, ◌∷◌, ◌++◌, ◌+◌, ◌*◌, ◌≤◌, length};
 ghost use Rattle.octets.specs.Bytes.{row, numbers_in};
-ghost use Rattle.numbers.specs.Refusals.{number_in, answer_in};
+ghost use Rattle.numbers.specs.Refusals.{answer_in};
 ghost use Rattle.reading.specs.Layout.{table_length, gatherer_widths, gatherer_length, values_widths, values_length, events_widths, events_length};
 ghost use Rattle.reading.specs.Image.{table_with};
 ghost use Rattle.rms.specs.Gather.{gatherer_row};
-ghost use Rattle.bodies.specs.Bodies.{phase_numbers, detector_row, phase_of_number, standing_with, table_refusal, gatherer_answer, window_answer, detector_answer};
+ghost use Rattle.bodies.specs.Bodies.{phase_numbers, detector_row, phase_of_number, standing_with, table_answer, gatherer_answer, window_answer, detector_answer};
 
 use detection::Detector;
 use numbers::Refusal;
@@ -85,7 +85,7 @@ pub fn put_table(part: &mut [u8], count_width: u64)
 
 pub fn read_table(part: &[u8], count_width: u64) -> Result<(), Refusal>
     requires { count_width ≤ 8 }
-    ensures { number_in result ≡ table_refusal count_width part.now }
+    ensures { answer_in result ≡ table_answer count_width part.now }
 {
     let mut expected = [0u8; SETTINGS_AT];
     put_table(&mut expected, count_width);

@@ -54,12 +54,14 @@ pub fn read(bytes: &[u8]) -> Result<State, Refusal>
     let gatherer = bodies::read_gatherer(&bytes[GATHERER_AT..VALUES_AT], settings)?;
     let values = bodies::read_window(&bytes[VALUES_AT..EVENTS_AT], settings, gatherer.whole)?;
     let detector = bodies::read_detector(&bytes[EVENTS_AT..IMAGE_LENGTH], settings, values.count)?;
+    let window = values.window;
+    let marks = values.marks;
     Ok(State {
         settings,
         gatherer,
         detector,
-        window: values.window,
-        marks: values.marks,
+        window,
+        marks,
     })
 }
 

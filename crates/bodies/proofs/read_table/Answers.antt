@@ -8,7 +8,8 @@ use lib.Pointwise.{pointwise}
 use Rattle.numbers.specs.Notation.{◌≡ᵇ◌, refuse◌unless◌then◌}
 use Rattle.reading.specs.Image.{table_with}
 use Rattle.reading.specs.Restore.{same_bytes}
-use Rattle.bodies.specs.Bodies.{table_refusal}
+use Rattle.numbers.specs.Answers.{Answered, answered}
+use Rattle.bodies.specs.Bodies.{table_answer}
 use Rattle.bodies.proofs.read_table.Goals as goal
 
 pairs_same : (xs ys : List ℕ) → pointwise eqb xs ys ≡ same_bytes xs ys
@@ -17,18 +18,19 @@ pairs_same [] (y ∷ ys) = refl
 pairs_same (x ∷ xs) [] = refl
 pairs_same (x ∷ xs) (y ∷ ys) = ap ((x ≡ᵇ y) &&◌) (pairs_same xs ys)
 
-told : (n : ℕ) (part written ys : List ℕ) (r : Bool) → r ≡ pointwise eqb part ys → ys ≡ written → written ≡ table_with n → (refuse 9 unless r then 0) ≡ table_refusal n part
+abbrev told_by : Bool → Answered (Unit {0})
+told_by r = answered (refuse 9 unless r then 0) tt
+
+told : (n : ℕ) (part written ys : List ℕ) (r : Bool) → r ≡ pointwise eqb part ys → ys ≡ written → written ≡ table_with n → told_by r ≡ table_answer n part
 told n part written ys r e taken is =
-    (λ i. refuse 9 unless e i then 0)
-    ∙ ((λ i. refuse 9 unless pointwise eqb part (taken i) then 0)
-    ∙ ((λ i. refuse 9 unless pairs_same part written i then 0) ∙ (λ i. refuse 9 unless same_bytes part (is i) then 0)))
+    (λ i. told_by (e i)) ∙ ((λ i. told_by (pointwise eqb part (taken i))) ∙ ((λ i. told_by (pairs_same part written i)) ∙ (λ i. told_by (same_bytes part (is i)))))
 
 pub returns-then-eq : goal.returns-then-eq
 returns-then-eq c =
-    (λ i. refuse 9 unless sym c.if-eq.true i then 0)
+    (λ i. told_by (sym c.if-eq.true i))
     ∙ told c.args.count_width c.args.part.now _ _ c.eq.result c.eq.ensures c.as_slice.ensures c.put_table.ensures
 
 pub returns-else-eq : goal.returns-else-eq
 returns-else-eq c =
-    (λ i. refuse 9 unless sym c.if-eq.false i then 0)
+    (λ i. told_by (sym c.if-eq.false i))
     ∙ told c.args.count_width c.args.part.now _ _ c.eq.result c.eq.ensures c.as_slice.ensures c.put_table.ensures
