@@ -68,7 +68,12 @@ impl ThreeState {
         let count = self.joint.count;
         let standings = self.joint.standings;
         ThreeReadings {
-            channels: self.windows.map(|window: [u32; 120]| look_at(self.settings, &window, count)),
+            // One by one, since `map` would copy each window.
+            channels: Three {
+                a: look_at(self.settings, &self.windows.a, count),
+                b: look_at(self.settings, &self.windows.b, count),
+                c: look_at(self.settings, &self.windows.c, count),
+            },
             phase: state::phase_kind(self.joint.own.a.phase),
             dip: 0 < standings.dip.start,
             swell: 0 < standings.swell.start,
