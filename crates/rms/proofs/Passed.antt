@@ -1,59 +1,39 @@
--- The samples passed, with their sum of squares and their mark: as a part, one more, and eight more in four pairs.
-use Rattle.std.proofs.Common.{◌≡◌, ℕ, ◌+◌, ◌<◌, ◌≤◌, Bool, true, false, ◌||◌, List, [], ◌∷◌, ◌++◌, length, get_or, take, ℤ, pos, sym, refl, ap, ◌∙◌, add-one, arith, length-take-le, take_all, take-suc}
+-- The samples passed, as a part: one more behind others; eight more in four pairs; and the rows of eight that a list is cut into.
+use Rattle.std.proofs.Common.{◌≡◌, ℕ, zero, suc, ◌+◌, ◌*◌, ◌^◌, ◌<◌, ◌≤◌, Bool, true, false, ◌||◌, List, [], ◌∷◌, ◌++◌, length, get_or, take, drop, ℤ, pos, sym, refl, ap, ◌∙◌, add-one, append-nil, append_assoc, arith, length-append, take-suc, take-append-drop, drop-drop}
+use Rattle.std.specs.Simd.{first_chunks}
 use mathlib.Core.Bool.{or-true, or-false, or_assoc}
 use Rattle.reading.specs.Values.{square, squares}
 use Rattle.reading.specs.Clipping.{clipped, any_clipped}
 use Rattle.reading_laws.specs.RecordingsLaws.{squares-append, any_clipped-append}
 use Rattle.rms.specs.declared.Pair.{Pair}
 use Rattle.rms.specs.declared.Part.{Part}
-use Rattle.rms.specs.Gather.{part_of, pair_with}
+use Rattle.rms.specs.declared.Squared.{Squared}
+use Rattle.rms.specs.Gather.{squared_of, joined, part_of, pair_with}
 
-pub record Passed (xs : List ℤ) (i sum : ℕ) (mark : Bool) : Type 0 where
-  pub inside : i ≤ length xs
-  pub sum_is : sum ≡ squares (take i xs)
-  pub mark_is : mark ≡ any_clipped (take i xs)
-
-pub part-passed : (xs : List ℤ) (i : ℕ) {r : Part} → i ≤ length xs → r ≡ part_of (take i xs) → Passed xs i r.squares r.clipped
-part-passed xs i h e = record { inside = h; sum_is = ap (λ (r : Part). r.squares) e; mark_is = ap (λ (r : Part). r.clipped) e }
-
-module _ {xs : List ℤ} {i sum : ℕ} {mark : Bool} (p : Passed xs i sum mark) where
-  -- as a part, and all of them
-  pub passed-part : ◌≡◌ {A = Part} (record { count = i; squares = sum; clipped = mark }) (part_of (take i xs))
-  passed-part = λ j. record { count = sym (length-take-le i xs p.inside) j; squares = p.sum_is j; clipped = p.mark_is j }
-
-  pub passed-all : i ≡ length xs → ◌≡◌ {A = Part} (record { count = length xs; squares = sum; clipped = mark }) (part_of xs)
-  passed-all e = (λ j. record { count = sym e j; squares = sum; clipped = mark }) ∙ (passed-part ∙ ap part_of (take_all i xs (omega arith)))
-
-  -- one more
-  pub passed-one : i < length xs → Passed xs (i + 1) (sum + square (get_or xs i (pos 0))) (mark || clipped (get_or xs i (pos 0)))
-  passed-one h =
-      let x = get_or xs i (pos 0) in
-      let more : take (i + 1) xs ≡ take i xs ++ (x ∷ []) = rw (add-one, take-suc xs i (pos 0)) in
-      record {
-        inside = omega arith;
-        sum_is = rw (more, squares-append) (omega arith);
-        mark_is = rw (more, any_clipped-append, or-false) (λ j. p.mark_is j || clipped x);
-      }
-
--- two more
-passed-two : {xs : List ℤ} {i sum : ℕ} {mark : Bool} → Passed xs i sum mark → (k : ℕ) → k ≡ i + 2 → k ≤ length xs
-    → let x = get_or xs i (pos 0) in
-    let y = get_or xs (i + 1) (pos 0) in Passed xs k (sum + (square x + square y)) (mark || (clipped x || clipped y))
-passed-two {xs} {i} {sum} {mark} p k e h =
+-- one sample more, behind those at the front
+pub part-next : (front xs : List ℤ) (i : ℕ) {p : Part} {o : Squared} → i < length xs → p ≡ part_of (front ++ take i xs) → o ≡ squared_of (get_or xs i (pos 0))
+    → ◌≡◌ {A = Part} (record { count = p.count + 1; squares = p.squares + o.square; clipped = p.clipped || o.clipped }) (part_of (front ++ take (i + 1) xs))
+part-next front xs i {p} {o} h p-is o-is =
     let x = get_or xs i (pos 0) in
-    let y = get_or xs (i + 1) (pos 0) in
-    let two : k ≡ i + 1 + 1 = omega arith in
-    let sums : sum + (square x + square y) ≡ sum + square x + square y = omega arith in
-    rw (two, sums, ← or_assoc mark (clipped x) (clipped y)) (passed-one (passed-one p (omega arith)) (omega arith))
+    let before = front ++ take i xs in
+    let more : front ++ take (i + 1) xs ≡ before ++ (x ∷ []) = rw (add-one, take-suc xs i (pos 0) h) (sym (append_assoc front (take i xs) (x ∷ []))) in
+    let one : squares (x ∷ []) ≡ square x = omega arith in
+    (λ j. record { count = (p-is j).count + 1; squares = (p-is j).squares + (o-is j).square; clipped = (p-is j).clipped || (o-is j).clipped })
+    ∙ ((λ j. record {
+      count = sym (length-append before (x ∷ [])) j;
+      squares = sym (squares-append before (x ∷ []) ∙ ap (λ (n : ℕ). squares before + n) one) j;
+      clipped = sym (any_clipped-append before (x ∷ []) ∙ ap (λ (b : Bool). any_clipped before || b) (or-false (clipped x))) j;
+    })
+    ∙ ap part_of (sym more))
 
 -- the sum and the mark of four pairs
-abbrev pub sum_of : Pair → Pair → Pair → Pair → ℕ
+abbrev sum_of : Pair → Pair → Pair → Pair → ℕ
 sum_of p q r s = s.squares + r.squares + q.squares + p.squares
 
 abbrev marked : Pair → Bool
 marked p = p.left || p.right
 
-abbrev pub mark_of : Pair → Pair → Pair → Pair → Bool
+abbrev mark_of : Pair → Pair → Pair → Pair → Bool
 mark_of p q r s = marked p || marked q || marked r || marked s
 
 -- two marks that each take one more
@@ -62,38 +42,98 @@ both true b x y = refl
 both false true x y = or-true x
 both false false x y = refl
 
-four : (a b c d w x y z : Bool) → (a || w || (b || x) || (c || y) || (d || z)) ≡ (a || b || c || d || w || x || y || z)
+four : (a b c d w x y z : Bool) → (a || w || (b || x) || (c || y) || (d || z)) ≡ ((a || b || c || d) || (w || x || y || z))
 four a b c d w x y z =
-    (λ j. both a b w x j || (c || y) || (d || z))
-    ∙ ((λ j. both (a || b) c (w || x) y j || (d || z))
-    ∙ (both (a || b || c) d (w || x || y) z
-    ∙ (sym (or_assoc (a || b || c || d) (w || x || y) z)
-    ∙ ((λ j. sym (or_assoc (a || b || c || d) (w || x) y) j || z)
-    ∙ (λ j. sym (or_assoc (a || b || c || d) w x) j || y || z)))))
+    (λ j. both a b w x j || (c || y) || (d || z)) ∙ ((λ j. both (a || b) c (w || x) y j || (d || z)) ∙ both (a || b || c) d (w || x || y) z)
 
--- eight more, two for each pair
-module _ (xs : List ℤ) (p q r s : Pair) (i : ℕ) where
+-- the rows passed, i of eight samples each, in four pairs
+pub record Turned (rows : List (List ℤ)) (i : ℕ) (p q r s : Pair) : Type 0 where
+  pub part_is : ◌≡◌ {A = Part} (record { count = 8 * i; squares = sum_of p q r s; clipped = mark_of p q r s }) (part_of (joined (take i rows)))
+  pub first_le : p.squares ≤ i * 2 ^ 31
+  pub second_le : q.squares ≤ i * 2 ^ 31
+  pub third_le : r.squares ≤ i * 2 ^ 31
+  pub fourth_le : s.squares ≤ i * 2 ^ 31
+
+joined-next : (rows : List (List ℤ)) (i : ℕ) → i < length rows → joined (take (suc i) rows) ≡ joined (take i rows) ++ get_or rows i []
+joined-next [] i h = absurd (omega arith)
+joined-next (row ∷ rows) zero h = append-nil row
+joined-next (row ∷ rows) (suc i) h =
+    ap (λ (xs : List ℤ). row ++ xs) (joined-next rows i (omega arith)) ∙ sym (append_assoc row (joined (take i rows)) (get_or rows i []))
+
+-- a row of eight
+module _ (row : List ℤ) where
+  abbrev at : ℕ → ℤ
+  at k = get_or row k (pos 0)
+
+  abbrev eight : List ℤ
+  eight = at 0 ∷ at 1 ∷ at 2 ∷ at 3 ∷ at 4 ∷ at 5 ∷ at 6 ∷ at 7 ∷ []
+
+eight-are : (row : List ℤ) → length row ≡ 8 → row ≡ eight row
+eight-are [] l = absurd (omega arith)
+eight-are (_ ∷ []) l = absurd (omega arith)
+eight-are (_ ∷ _ ∷ []) l = absurd (omega arith)
+eight-are (_ ∷ _ ∷ _ ∷ []) l = absurd (omega arith)
+eight-are (_ ∷ _ ∷ _ ∷ _ ∷ []) l = absurd (omega arith)
+eight-are (_ ∷ _ ∷ _ ∷ _ ∷ _ ∷ []) l = absurd (omega arith)
+eight-are (_ ∷ _ ∷ _ ∷ _ ∷ _ ∷ _ ∷ []) l = absurd (omega arith)
+eight-are (_ ∷ _ ∷ _ ∷ _ ∷ _ ∷ _ ∷ _ ∷ []) l = absurd (omega arith)
+eight-are (_ ∷ _ ∷ _ ∷ _ ∷ _ ∷ _ ∷ _ ∷ _ ∷ []) l = refl
+eight-are (_ ∷ _ ∷ _ ∷ _ ∷ _ ∷ _ ∷ _ ∷ _ ∷ _ ∷ _) l = absurd (omega arith)
+
+-- one row more, two of its samples for each pair
+module _ (rows : List (List ℤ)) (i : ℕ) (p q r s : Pair) (h : i < length rows) (long : length (get_or rows i []) ≡ 8) (turned : Turned rows i p q r s) where
+  abbrev row : List ℤ
+  row = get_or rows i []
+
+  abbrev before : List ℤ
+  before = joined (take i rows)
+
   abbrev taken : Pair → ℕ → Pair
-  taken p k = pair_with p (get_or xs k (pos 0)) (get_or xs (k + 1) (pos 0))
+  taken p k = pair_with p (at row k) (at row (k + 1))
 
   abbrev mark : ℕ → Bool
-  mark k = clipped (get_or xs k (pos 0)) || clipped (get_or xs (k + 1) (pos 0))
+  mark k = clipped (at row k) || clipped (at row (k + 1))
 
   taken-mark : (p : Pair) (k : ℕ) → marked (taken p k) ≡ (marked p || mark k)
-  taken-mark p k = both p.left p.right (clipped (get_or xs k (pos 0))) (clipped (get_or xs (k + 1) (pos 0)))
+  taken-mark p k = both p.left p.right (clipped (at row k)) (clipped (at row (k + 1)))
 
-  pub passed-eight : Passed xs i (sum_of p q r s) (mark_of p q r s) → i + 8 ≤ length xs
-      → Passed xs (i + 8) (sum_of (taken p i) (taken q (i + 2)) (taken r (i + 4)) (taken s (i + 6)))
-      (mark_of (taken p i) (taken q (i + 2)) (taken r (i + 4)) (taken s (i + 6)))
-  passed-eight are h =
-      let a = passed-two are (i + 2) refl (omega arith) in
-      let b = passed-two a (i + 4) (omega arith) (omega arith) in
-      let c = passed-two b (i + 6) (omega arith) (omega arith) in
-      let d = passed-two c (i + 8) (omega arith) h in
+  row-mark : any_clipped (eight row) ≡ (mark 0 || mark 2 || mark 4 || mark 6)
+  row-mark = simp (or_assoc, or-false)
+
+  mark-next : mark_of (taken p 0) (taken q 2) (taken r 4) (taken s 6) ≡ any_clipped (before ++ row)
+  mark-next =
+      (λ j. taken-mark p 0 j || taken-mark q 2 j || taken-mark r 4 j || taken-mark s 6 j)
+      ∙ (four (marked p) (marked q) (marked r) (marked s) (mark 0) (mark 2) (mark 4) (mark 6)
+      ∙ ((λ j. (turned.part_is j).clipped || (sym row-mark ∙ ap any_clipped (sym (eight-are row long))) j) ∙ sym (any_clipped-append before row)))
+
+  sum-next : sum_of (taken p 0) (taken q 2) (taken r 4) (taken s 6) ≡ squares (before ++ row)
+  sum-next =
+      let sum : sum_of p q r s ≡ squares before = ap (λ (k : Part). k.squares) turned.part_is in
+      let of-row : squares row ≡ squares (eight row) = ap squares (eight-are row long) in
+      omega (arith, sum, of-row, squares-append before row)
+
+  count-next : 8 * (i + 1) ≡ length (before ++ row)
+  count-next = let count : 8 * i ≡ length before = ap (λ (k : Part). k.count) turned.part_is in omega (arith, count, length-append before row, long)
+
+  pub turned-next : (p' q' r' s' : Pair) → p' ≡ taken p 0 → q' ≡ taken q 2 → r' ≡ taken r 4 → s' ≡ taken s 6 → p'.squares ≤ p.squares + 2 ^ 31 → q'.squares ≤ q.squares + 2 ^ 31
+      → r'.squares ≤ r.squares + 2 ^ 31 → s'.squares ≤ s.squares + 2 ^ 31 → Turned rows (i + 1) p' q' r' s'
+  turned-next p' q' r' s' p-is q-is r-is s-is p-le q-le r-le s-le =
+      let more : joined (take (i + 1) rows) ≡ before ++ row = rw add-one (joined-next rows i h) in
       record {
-        inside = h;
-        sum_is = omega (arith, d.sum_is);
-        mark_is =
-            (λ j. taken-mark p i j || taken-mark q (i + 2) j || taken-mark r (i + 4) j || taken-mark s (i + 6) j)
-            ∙ (four (marked p) (marked q) (marked r) (marked s) (mark i) (mark (i + 2)) (mark (i + 4)) (mark (i + 6)) ∙ d.mark_is);
+        part_is =
+            rw (p-is, q-is, r-is, s-is, more) (λ j. record { count = count-next j; squares = sum-next j; clipped = mark-next j });
+        first_le = omega (arith, turned.first_le);
+        second_le = omega (arith, turned.second_le);
+        third_le = omega (arith, turned.third_le);
+        fourth_le = omega (arith, turned.fourth_le);
       }
+
+-- the first rows of a list, and what is behind them
+pub joined-chunks : (n k : ℕ) (xs : List ℤ) → joined (first_chunks n k xs) ++ drop (k * n) xs ≡ xs
+joined-chunks n zero xs = let none : zero * n ≡ 0 = omega arith in rw none
+joined-chunks n (suc k) xs =
+    let place : n + k * n ≡ suc k * n = omega arith in
+    let rest : drop (suc k * n) xs ≡ drop (k * n) (drop n xs) = sym (drop-drop (k * n) n xs ∙ ap (λ (m : ℕ). drop m xs) place) in
+    append_assoc (take n xs) (joined (first_chunks n k (drop n xs))) (drop (suc k * n) xs)
+    ∙ (ap (λ (ys : List ℤ). take n xs ++ (joined (first_chunks n k (drop n xs)) ++ ys)) rest
+    ∙ (ap (λ (ys : List ℤ). take n xs ++ ys) (joined-chunks n k (drop n xs)) ∙ take-append-drop n xs))

@@ -1,6 +1,6 @@
 -- The gatherer's steps, where a half-cycle ends, and the gatherer that a recording leaves. 01: count and sum of the half in progress, sum of the last whole
 -- half. 02, N1: the marks of both.
-use Rattle.std.specs.Prelude.{◌≡◌, ℕ, ◌+◌, ◌-◌, ◌*◌, ◌%◌, ◌^◌, ◌≤◌, Bool, true, false, ◌||◌, List, [], ◌∷◌, length, ℤ, if◌then◌else◌}
+use Rattle.std.specs.Prelude.{◌≡◌, ℕ, ◌+◌, ◌-◌, ◌*◌, ◌%◌, ◌^◌, ◌≤◌, Bool, true, false, ◌||◌, List, [], ◌∷◌, ◌++◌, length, ℤ, if◌then◌else◌}
 use Rattle.numbers.specs.Notation.{◌<ᵇ◌, flag}
 use Rattle.numbers.specs.Rules.{Holds}
 use Rattle.settings.specs.declared.Settings.{Settings}
@@ -23,6 +23,11 @@ squared_of x = record { square = square x; clipped = clipped x }
 -- the part of a half-cycle that samples are
 abbrev pub part_of : List ℤ → Part
 part_of xs = record { count = length xs; squares = squares xs; clipped = any_clipped xs }
+
+-- samples that are given eight at a time, in a row
+abbrev pub joined : List (List ℤ) → List ℤ
+joined [] = []
+joined (xs ∷ xss) = xs ++ joined xss
 
 -- two neighbours of every eight samples, with two more
 abbrev pub pair_with : Pair → ℤ → ℤ → Pair

@@ -1,10 +1,10 @@
 // From samples to values: parts of a half-cycle, the integer root, the RMS value of two half-cycles, and the gatherer of half-cycles.
 #![tactic(auto)]
 
-ghost use Rattle.std.specs.Prelude.{◌≡◌, ◌+◌, ◌*◌, ◌/◌, ◌^◌, ◌<◌, ◌≤◌, true, length, take, pos, slice_index_or};
+ghost use Rattle.std.specs.Prelude.{◌≡◌, ◌+◌, ◌*◌, ◌/◌, ◌^◌, ◌<◌, ◌≤◌, true, length};
 ghost use Rattle.reading.specs.Values.{root as root_of, rms};
 ghost use Rattle.rms.specs.Roots.{roots_from};
-ghost use Rattle.rms.specs.Gather.{squared_of, part_of, pair_with, no_sample, with_part, with_half, cut as cut_of, gathered, ValidGatherer};
+ghost use Rattle.rms.specs.Gather.{squared_of, joined, part_of, pair_with, no_sample, with_part, with_half, cut as cut_of, gathered, ValidGatherer};
 
 // A sample's square, and whether the sample is clipped.
 #[derive(Clone, Copy)]
@@ -41,14 +41,13 @@ struct Pair {
 }
 
 impl Pair {
-    // With the two samples at a place.
-    fn with_two(self, samples: &[i16], at: usize) -> Pair
-        requires { (at + 1 < length samples.now) × (self.squares + 2 ^ 31 < 2 ^ 64) }
-        ensures { (result ≡ pair_with self (slice_index_or samples.now at (pos 0)) (slice_index_or samples.now (at + 1) (pos 0)))
-            × (result.squares ≤ self.squares + 2 ^ 31) }
+    // With two samples more.
+    fn with_two(self, left: i16, right: i16) -> Pair
+        requires { self.squares + 2 ^ 31 < 2 ^ 64 }
+        ensures { (result ≡ pair_with self left right) × (result.squares ≤ self.squares + 2 ^ 31) }
     {
-        let a = square(samples[at]);
-        let b = square(samples[at + 1]);
+        let a = square(left);
+        let b = square(right);
         Pair {
             squares: self.squares + (a.square + b.square) as u64,
             left: self.left | a.clipped,
@@ -57,11 +56,11 @@ impl Pair {
     }
 }
 
-// The part that the first samples are, eight at a time, as processors multiply, add and compare eight in one step. The pairs are named and added from the last
-// on: so the compiler leaves the samples in their order.
-fn sum_eights(samples: &[i16], eights: usize) -> Part
-    requires { (8 * eights ≤ length samples.now) × (length samples.now ≤ 256) }
-    ensures { (result ≡ part_of (take (8 * eights) samples.now)) × (result.squares ≤ 8 * eights * 2 ^ 30) }
+// The part that samples are, given eight at a time, as processors multiply, add and compare eight in one step. The pairs are named and added from the last on: so
+// the compiler leaves the samples in their order.
+fn sum_eights(eights: &[[i16; 8]]) -> Part
+    requires { length eights.now ≤ 32 }
+    ensures { (result ≡ part_of (joined eights.now)) × (result.squares ≤ result.count * 2 ^ 30) }
 {
     let none = Pair {
         squares: 0,
@@ -72,17 +71,14 @@ fn sum_eights(samples: &[i16], eights: usize) -> Part
     let mut third = none;
     let mut second = none;
     let mut first = none;
-    let mut turn: usize = 0;
-    while turn < eights {
-        let at = 8 * turn;
-        first = first.with_two(samples, at);
-        second = second.with_two(samples, at + 2);
-        third = third.with_two(samples, at + 4);
-        fourth = fourth.with_two(samples, at + 6);
-        turn += 1;
+    for eight in eights {
+        first = first.with_two(eight[0], eight[1]);
+        second = second.with_two(eight[2], eight[3]);
+        third = third.with_two(eight[4], eight[5]);
+        fourth = fourth.with_two(eight[6], eight[7]);
     }
     Part {
-        count: (8 * eights) as u32,
+        count: 8 * eights.len() as u32,
         squares: fourth.squares + third.squares + second.squares + first.squares,
         clipped: (first.left | first.right)
             | (second.left | second.right)
@@ -96,23 +92,17 @@ pub fn sum_squares(samples: &[i16]) -> Part
     requires { length samples.now ≤ 256 }
     ensures { (result ≡ part_of samples.now) × (result.squares ≤ result.count * 2 ^ 30) }
 {
-    let eights = sum_eights(samples, samples.len() / 8);
-    let rest = samples.len() % 8;
-    let end = samples.len() - rest;
-    let mut sum = eights.squares;
-    let mut clipped = eights.clipped;
-    let mut i: usize = 0;
-    while i < rest {
-        let one = square(samples[end + i]);
-        sum += one.square as u64;
-        clipped = clipped | one.clipped;
-        i += 1;
+    let (eights, rest) = samples.as_chunks::<8>();
+    let mut part = sum_eights(eights);
+    for sample in rest {
+        let one = square(*sample);
+        part = Part {
+            count: part.count + 1,
+            squares: part.squares + one.square as u64,
+            clipped: part.clipped | one.clipped,
+        };
     }
-    Part {
-        count: samples.len() as u32,
-        squares: sum,
-        clipped,
-    }
+    part
 }
 
 // The roots of the numbers below 256, sixteen in a row; as a byte string, since the layout has the numbers of a list one to a line.
@@ -135,8 +125,8 @@ const ROOTS: [u8; 256] = *b"\
     \x0f\x0f\x0f\x0f\x0f\x0f\x0f\x0f\x0f\x0f\x0f\x0f\x0f\x0f\x0f\x0f";
 
 // The root of a number from a table of roots.
-fn from_table(n: u64, roots: &[u8]) -> u64
-    requires { (roots_from 0 roots.now ≡ true) × (n < length roots.now) }
+fn from_table(n: u64, roots: &[u8; 256]) -> u64
+    requires { (roots_from 0 roots.now ≡ true) × (n < 256) }
     ensures { result ≡ root_of n }
 {
     roots[n as usize] as u64
@@ -203,7 +193,8 @@ pub struct Gatherer {
     // Of the half-cycle in progress: how many samples, and the sum of their squares.
     pub count: u32,
     pub sum: u64,
-    // Of the last whole half-cycle: its sum, and whether there is one. Without one the sum is 0.
+    // Of the last whole half-cycle: its sum, and whether there is one. Without one the sum is 0, and it is no `Option`: `gatherer_rule`, which any image must
+    // meet, `gatherer_of` and `value_with` speak of each field by itself.
     pub last: u64,
     pub whole: bool,
     // Whether a sample of the half-cycle in progress is clipped, and of the last whole one.
@@ -245,15 +236,9 @@ impl Gatherer {
         ensures { result ≡ cut_of half_length self samples.now }
     {
         let missing = (half_length - self.count) as usize;
-        if samples.len() < missing {
-            return Share {
-                count: samples.len(),
-                completes: false,
-            };
-        }
         Share {
-            count: missing,
-            completes: true,
+            count: missing.min(samples.len()),
+            completes: missing <= samples.len(),
         }
     }
 
@@ -265,10 +250,8 @@ impl Gatherer {
         Gatherer {
             count: self.count + part.count,
             sum: self.sum + part.squares,
-            last: self.last,
-            whole: self.whole,
             clipped: self.clipped | part.clipped,
-            last_clipped: self.last_clipped,
+            ..self
         }
     }
 

@@ -17,8 +17,5 @@ entry-is [] n k m e h p = absurd (not-suc-le-zero h)
 entry-is (r ∷ rs) n zero m e h p = let q : n ≡ m = omega arith in rw (sym q) (passed n r (and_left (root_passes n r) (roots_from (suc n) rs) e))
 entry-is (r ∷ rs) n (suc k) m e h p = entry-is rs (suc n) k m (and_right (root_passes n r) (roots_from (suc n) rs) e) (le_of_suc-le-suc h) (omega arith)
 
-pub overflow_cast-result : goal.overflow_cast-result
-overflow_cast-result c = let f = (c.type_inv.roots c.args.n).fits in omega arith
-
 pub returns : goal.returns
-returns c = let a = c.args in root-only (entry-is a.roots.now 0 a.n a.n c.requires.0 c.requires.1 (omega arith))
+returns c = let a = c.args in root-only (entry-is a.roots.now 0 a.n a.n c.requires.0 (omega (arith, c.told-roots)) (omega arith))

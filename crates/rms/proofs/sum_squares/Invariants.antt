@@ -1,11 +1,10 @@
--- The invariant: the sum and the mark are those of the samples passed, at first of the eights.
-use Rattle.std.proofs.Common.{◌≡◌, ◌+◌, ◌-◌, ◌*◌, ◌^◌, ◌≤◌, length}
-use Rattle.rms.proofs.Passed.{Passed}
+-- The invariant: the part is that of the samples passed, at first of the eights.
+use Rattle.std.proofs.Common.{◌≡◌, ◌*◌, ◌/◌, ◌^◌, ◌≤◌, ◌++◌, length, take}
+use Rattle.std.specs.Simd.{first_chunks}
+use Rattle.rms.specs.Gather.{joined, part_of}
 use Rattle.rms.proofs.sum_squares.Given as goal
 
-abbrev pub invariant-loop-i : goal.invariant-loop-i
-invariant-loop-i l =
-    (l.i ≤ l.rest) × (l.end + l.rest ≡ length l.samples) × (l.sum ≤ (l.end + l.i) * 2 ^ 30) × Passed l.samples (l.end + l.i) l.sum l.clipped
-
-abbrev pub decreases-loop-i : goal.decreases-loop-i
-decreases-loop-i l = l.rest - l.i
+abbrev pub invariant-loop-sample : goal.invariant-loop-sample
+invariant-loop-sample l =
+    let xs = l.fn.samples in
+    (l.part ≡ part_of (joined (first_chunks 8 (length xs / 8) xs) ++ take l.sample-index l.rest)) × (l.part.squares ≤ l.part.count * 2 ^ 30)
