@@ -7,20 +7,11 @@ use Rattle.three_half.specs.HalvesLaws.{sums-fit}
 use Rattle.three_half.proofs.HalfEnds.{values-ready, ready, first-half, end-half, full-half, taken-half}
 use Rattle.three_half.proofs.complete.Goals as goal
 
-pub halves_of-halves-requires : goal.halves_of-halves-requires
-halves_of-halves-requires c = sums-fit c.requires
-
-pub returns-then-not-whole : goal.returns-then-not-whole
-returns-then-not-whole c = first-half c.requires c.args.records.now c.if-not-whole.true
+pub returns-then-not-gatherers : goal.returns-then-not-gatherers
+returns-then-not-gatherers c = first-half c.requires c.args.records.now c.if-not-gatherers.true
 
 pub returns-then-count-eq-LAST_VALUE : goal.returns-then-count-eq-LAST_VALUE
-returns-then-count-eq-LAST_VALUE c = end-half c.requires c.args.records.now c.if-not-whole.false c.if-count-eq-LAST_VALUE.true
-
-pub values_of-values-requires : goal.values_of-values-requires
-values_of-values-requires c = values-ready c.requires c.halves_of-halves.result c.halves_of-halves.ensures
-
-pub try_values-tried-requires : goal.try_values-tried-requires
-try_values-tried-requires c = ready c.requires c.values_of-values.result c.values_of-values.ensures.1 c.if-count-eq-LAST_VALUE.false
+returns-then-count-eq-LAST_VALUE c = end-half c.requires c.args.records.now c.if-not-gatherers.false c.if-count-eq-LAST_VALUE.true
 
 pub returns-then-records-written : goal.returns-then-records-written
 returns-then-records-written c =
@@ -28,21 +19,8 @@ returns-then-records-written c =
     let values = c.values_of-values in
     let tried = c.try_values-tried in
     let written = c.count-written in
-    full-half c.requires c.args.records.now c.if-not-whole.false c.if-count-eq-LAST_VALUE.false halves.result halves.ensures
+    full-half c.requires c.args.records.now c.if-not-gatherers.false c.if-count-eq-LAST_VALUE.false halves.result halves.ensures
     values.result values.ensures.0 tried.result tried.ensures written.result written.ensures c.if-records-written.true
-
-pub push_values-requires : goal.push_values-requires
-push_values-requires c =
-    let n = c.window_length-length.ensures in
-    (omega (arith, n.1), n.2)
-
-pub push_mark-requires : goal.push_mark-requires
-push_mark-requires c =
-    let n = c.window_length-length.ensures in
-    (omega (arith, n.1), omega (arith, n.2, c.requires.valid.marks-valid.size), ap (λ (k : JointSums). k.marks) c.requires.sums-are)
-
-pub put-requires : goal.put-requires
-put-requires c = omega (arith, c.count-written.ensures, c.if-records-written.false)
 
 pub returns : goal.returns
 returns c =
@@ -52,7 +30,7 @@ returns c =
     let written = c.count-written in
     let n = c.window_length-length in
     let pushed = c.push_values in
-    taken-half c.requires c.args.records.now c.if-not-whole.false c.if-count-eq-LAST_VALUE.false halves.result halves.ensures
+    taken-half c.requires c.args.records.now c.if-not-gatherers.false c.if-count-eq-LAST_VALUE.false halves.result halves.ensures
     values.result values.ensures.0 tried.result tried.ensures written.result written.ensures (omega (arith, c.if-records-written.false))
     n.result c.flag.result n.ensures.0 c.flag.ensures
     pushed.new.windows c.push_mark.new.marks c.put.new.buffer
