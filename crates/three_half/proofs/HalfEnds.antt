@@ -1,6 +1,7 @@
 -- The end of a half-cycle, `complete`: what it hands on, and its ways out. The first half-cycle gives no value; V may be at its end, the records may not fit;
 -- else it is taken.
 use Rattle.std.proofs.Common.{if◌then◌else◌, ◌≡◌, refl, sym, ◌∙◌, ap, Bool, true, false, List, [], ◌∷◌, ℕ, suc, ◌+◌, ◌≤◌, ◌<◌, arith, length, lt-ltb, le-ltb, Ok, Err}
+use Rattle.std.specs.Prelude.{not}
 use Rattle.numbers.specs.Notation.{◌<ᵇ◌, flag}
 use Rattle.settings.specs.declared.Settings.{Settings}
 use Rattle.settings.specs.declared.Scaled.{Scaled}
@@ -31,6 +32,15 @@ use Rattle.three_state.specs.ThreeStep.{three_passes, three_half_due, three_half
 use Rattle.three_half.specs.declared.Half.{Half}
 use Rattle.three_half.specs.Halves.{HalfReady, half_by, half_of, half_outcome, ValuesReady, values_by}
 use Rattle.three_half.specs.HalvesLaws.{sum-at}
+
+-- a test of what is not so
+pub is-false : (b : Bool) → not b ≡ true → b ≡ false
+is-false true e = sym e
+is-false false e = refl
+
+pub is-true : (b : Bool) → not b ≡ false → b ≡ true
+is-true true e = refl
+is-true false e = sym e
 
 half_at : (c : Channel) (g : Three Gatherer) (p : Three Part) → at c (with_halves g p) ≡ with_half (at c g) (at c p)
 half_at on_a g p = refl
