@@ -1,8 +1,8 @@
--- What the image's restore leaves and tells; its state is valid since the old one is.
+-- The image's restore leaves a valid state of a valid one.
+use Rattle.std.proofs.Math.Logic.{∥∥₁_map}
 use mathlib.Core.Path.{sym, subst}
 use mathlib.Core.List.{List}
 use Prim.Native.Nat.{ℕ}
-use Rattle.octets.specs.Bytes.{Bytes}
 use Rattle.octets.specs.BytesLaws.{bytes-by}
 use Rattle.reading.specs.Calls.{Restoration}
 use Rattle.state.specs.declared.State.{State}
@@ -10,9 +10,9 @@ use Rattle.state.specs.State.{ValidState}
 use Rattle.image.specs.ImageLaws.{restored_by-valid}
 use Rattle.logger.proofs.Logger.restore.Goals as goal
 
-pub returns : goal.returns
-returns c =
+pub invariant_of-result : goal.invariant_of-result
+invariant_of-result c =
+    let old = c.args.self.state in
     let b : List ℕ = c.args.bytes.now in
-    let bytes : Bytes b = bytes-by b (λ k. (c.type_inv.bytes k).fits) in
-    let is = c.restore-restored.ensures in
-    (is, subst (λ (r : Restoration State). ValidState r.after) (sym is) (restored_by-valid c.args.self.state b bytes c.requires))
+    let left = λ (valid : ValidState old). restored_by-valid old b (bytes-by b (λ k. (c.type_inv.bytes k).fits)) valid in
+    record { valid = ∥∥₁_map c.args.self.valid (λ valid. subst (λ (r : Restoration State). ValidState r.after) (sym c.restore-restored.ensures) (left valid)) }

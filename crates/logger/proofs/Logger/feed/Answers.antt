@@ -1,0 +1,6 @@
+-- A logger's state is valid.
+use Rattle.state.proofs.ValidSettled.{valid-settled}
+use Rattle.logger.proofs.Logger.feed.Goals as goal
+
+pub walk-walked-requires : goal.walk-walked-requires
+walk-walked-requires c = valid-settled c.args.self.state c.args.self.valid
