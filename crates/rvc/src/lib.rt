@@ -1,13 +1,14 @@
 // Rapid voltage changes: the steady signal, the phase with what a change in progress carries, and one value's step of each.
 #![tactic(auto)]
 
-ghost use Rattle.std.specs.Prelude.{◌≡◌, ◌||◌, ◌*◌, ◌≤◌, max, if◌then◌else◌};
+ghost use Rattle.std.specs.Prelude.{◌≡◌, ◌||◌, ◌*◌, ◌≤◌, max, slice_index, if◌then◌else◌};
 ghost use Rattle.numbers.specs.Notation.{◌<ᵇ◌, ◌≡ᵇ◌};
 ghost use Rattle.reading.specs.Changes.{gap};
+ghost use Rattle.reading.specs.Readings.{phase_kind_number};
 ghost use Rattle.rvc.specs.Signal.{limit_of, held_at, steady_by, signal_after, TestReady};
-ghost use Rattle.rvc.specs.Phase.{change_from, grown, closing, signal_in, onward, ended_of, moved_by, moved_on, ChangeReady, Joins};
+ghost use Rattle.rvc.specs.Phase.{change_from, grown, closing, signal_in, onward, ended_of, moved_by, moved_on, phase_row, ChangeReady, Joins};
 
-use reading::{Event, Record};
+use reading::{Event, PhaseKind, Record};
 use settings::Scaled;
 
 // The steady signal, with what must be kept of it: fewer than N values; never yet true; true; false since value k. It is no `Phase<u64>` with `Phase<Change>`
@@ -224,6 +225,18 @@ impl Change {
 }
 
 impl Phase {
+    // Which phase it is, without what a change carries.
+    pub fn kind(self) -> PhaseKind
+        ensures { phase_kind_number result ≡ slice_index (phase_row self) 0 }
+    {
+        match self {
+            Phase::Filling => PhaseKind::Filling,
+            Phase::Unsettled => PhaseKind::Unsettled,
+            Phase::Steady => PhaseKind::Steady,
+            Phase::Changing(_) => PhaseKind::Changing,
+        }
+    }
+
     // The signal that it stands under.
     pub fn signal(self) -> Signal
         ensures { result ≡ signal_in self }

@@ -5,13 +5,12 @@ ghost use Rattle.std.specs.Prelude.{◌≡◌, ◌≤◌, length, take, if◌the
 ghost use Rattle.numbers.specs.Notation.{◌<ᵇ◌};
 ghost use Rattle.settings.specs.Settings.{ValidSettings};
 ghost use Rattle.reading.specs.Changes.{sum as sum_of};
-ghost use Rattle.reading.specs.Readings.{phase_kind_number, readings_in};
-ghost use Rattle.state.specs.State.{fresh as fresh_of, phase_number_of, readings_of, ValidState};
+ghost use Rattle.reading.specs.Readings.{readings_in};
+ghost use Rattle.state.specs.State.{fresh as fresh_of, readings_of, ValidState};
 
 use detection::Detector;
-use reading::{PhaseKind, Readings};
+use reading::Readings;
 use rms::Gatherer;
-use rvc::Phase;
 use settings::Settings;
 
 #[derive(Clone, Copy)]
@@ -24,26 +23,14 @@ pub struct State {
 }
 
 // The sum of a window of `window_length` after `count` values, 0 while it is not full.
-pub fn full_sum(window: &[u32], window_length: u64, count: u64) -> u64
-    requires { (window_length ≤ length window.now) × (window_length ≤ 120) }
+pub fn full_sum(window: &[u32; 120], window_length: u64, count: u64) -> u64
+    requires { window_length ≤ 120 }
     ensures { result ≡ (if count <ᵇ window_length then 0 else sum_of (take window_length window.now)) }
 {
     if count < window_length {
         return 0;
     }
-    window::sum_of(&window[0..window_length as usize])
-}
-
-// A phase without what it carries.
-pub fn phase_kind(phase: Phase) -> PhaseKind
-    ensures { phase_kind_number result ≡ phase_number_of phase }
-{
-    match phase {
-        Phase::Filling => PhaseKind::Filling,
-        Phase::Unsettled => PhaseKind::Unsettled,
-        Phase::Steady => PhaseKind::Steady,
-        Phase::Changing(_) => PhaseKind::Changing,
-    }
+    window::sum_of(&window[..window_length as usize])
 }
 
 impl State {
@@ -62,27 +49,22 @@ impl State {
     }
 
     // What look tells.
+    #[tactic(auto, unfolding(crate::specs::State::readings_of))]
     pub fn look(self) -> Readings
         requires { ValidState self }
         ensures { readings_in result ≡ readings_of self }
     {
-        let settings = self.settings;
         let detector = self.detector;
-        let window = self.window;
-        let window_length = settings.window_length();
+        let window_length = self.settings.window_length();
         let count = detector.count;
-        let phase = detector.phase;
-        let dip = detector.dip;
-        let swell = detector.swell;
-        let interruption = detector.interruption;
         Readings {
             count,
-            value: window::newest(&window, window_length, count) as u64,
-            sum: full_sum(&window, window_length, count),
-            phase: phase_kind(phase),
-            dip: 0 < dip.start,
-            swell: 0 < swell.start,
-            interruption: 0 < interruption.start,
+            value: u64::from(window::newest(&self.window, window_length, count)),
+            sum: full_sum(&self.window, window_length, count),
+            phase: detector.phase.kind(),
+            dip: 0 < detector.dip.start,
+            swell: 0 < detector.swell.start,
+            interruption: 0 < detector.interruption.start,
         }
     }
 }
