@@ -74,7 +74,7 @@ impl ThreeState {
                 b: look_at(self.settings, &self.windows.b, count),
                 c: look_at(self.settings, &self.windows.c, count),
             },
-            phase: state::phase_kind(self.joint.own.a.phase),
+            phase: self.joint.own.a.phase.kind(),
             dip: 0 < standings.dip.start,
             swell: 0 < standings.swell.start,
             interruption: 0 < standings.interruption.start,
