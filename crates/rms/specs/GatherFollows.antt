@@ -1,7 +1,8 @@
 -- The gatherer follows the recording: with one sample more, the gatherer read from a recording is the one read from the longer recording, and what comes out
 -- is the value that is new. So lent to one sample after the other, it is the recording's.
 use Rattle.std.specs.Prelude.{◌≡◌, ℕ, zero, suc, ◌+◌, ◌-◌, ◌*◌, ◌%◌, ◌^◌, ◌<◌, ◌≤◌, Bool, true, false, ◌||◌, List, [], ◌∷◌, ◌++◌, map, length, drop, ℤ, refl, if◌then◌else◌}
-use Rattle.std.proofs.Common.{sym, ◌∙◌, ap, ap₂, append-nil, arith, mod-lt, div-add-mod', le-div_iff_mul-le, add-one, length-append, length-drop, drop_of_length-le, take_all, ltb-false, lt-ltb, eqb-true}
+use Rattle.std.proofs.Common.{sym, ◌∙◌, ap, ap₂, append-nil, arith, mod-lt, div-add-mod', le-div_iff_mul-le, add-one}
+use Rattle.std.proofs.Common.{length-append, length-drop, drop_of_length-le, take_all, ltb-false, lt-ltb, eqb-true}
 use Rattle.std.proofs.Math.Nat.{zero-div, zero-mod}
 use Rattle.std.proofs.Math.Seq.{append_snoc, drop-nil}
 use Rattle.std.proofs.lemmas.List.{drop-append-le}

@@ -162,7 +162,7 @@ pub fn root(n: u64, near: u32) -> u64
     ensures { result ≡ root_of n }
 {
     let wide = near as u64;
-    if std::num::wrapping_sub_u64(n, wide * wide) <= 2 * wide {
+    if n.wrapping_sub(wide * wide) <= 2 * wide {
         return wide;
     }
     if n < 1024 {

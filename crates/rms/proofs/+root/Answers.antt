@@ -8,9 +8,8 @@ module _ (n near : ℕ) (fits : near < 2 ^ 32) where
   square-fits : near * near ≤ (2 ^ 32 - 1) * (2 ^ 32 - 1)
   square-fits = let h : near ≤ 2 ^ 32 - 1 = omega arith in mul-le-mul h h
 
-  near-root : (d : ℕ) → (d + near * near) % 2 ^ 64 ≡ n → d ≤ 2 * near → near ≡ root_of n
-  near-root d e h = root-only (record { low = omega (arith, square-fits); high = omega (arith, square-fits, square-add near 1) })
+  near-root : n < 2 ^ 64 → (n + (2 ^ 64 - near * near)) % 2 ^ 64 ≤ 2 * near → near ≡ root_of n
+  near-root small h = root-only (record { low = omega (arith, square-fits); high = omega (arith, square-fits, square-add near 1) })
 
-pub returns-then-wrapping_sub_u64-wide : goal.returns-then-wrapping_sub_u64-wide
-returns-then-wrapping_sub_u64-wide t c =
-    near-root c.args.n c.args.near c.ranges.near.fits c.wrapping_sub_u64.result c.wrapping_sub_u64.ensures.value c.if-wrapping_sub_u64-wide.true
+pub returns-then-n-wide : goal.returns-then-n-wide
+returns-then-n-wide t c = near-root c.args.n c.args.near c.ranges.near.fits c.ranges.n.fits c.if-n-wide.true
