@@ -2,16 +2,15 @@
 // refusal.
 #![tactic(auto)]
 
-ghost use Rattle.std.specs.Prelude.{◌≡◌, not, ◌≤◌, ◌<◌, ◌*◌, ◌^◌, length, replicate, IfOk};
+ghost use Rattle.std.specs.Prelude.{◌≡◌, not, ◌≤◌, ◌<◌, ◌*◌, ◌^◌, length, replicate};
 ghost use Rattle.octets.specs.Bytes.{row};
 ghost use Rattle.numbers.specs.Answers.{answered};
-ghost use Rattle.numbers.specs.Refusals.{answer_with, number_in};
+ghost use Rattle.numbers.specs.Refusals.{number_in};
 ghost use Rattle.reading.specs.Told.{told_in};
 ghost use Rattle.image.specs.Image.{state_at};
 ghost use Rattle.numbers.specs.Notation.{◌≡ᵇ◌};
 ghost use Rattle.samples.specs.Samples.{samples_of};
-ghost use Rattle.state.specs.State.{ValidState};
-ghost use Rattle.logger.specs.Logger.{fed_to};
+ghost use Rattle.logger.specs.Logger.{started_told, fed_to};
 ghost use Rattle.logger.specs.Calls.{logger_calls};
 ghost use Rattle.reading.specs.Engineer.{over};
 ghost use Rattle.reading.specs.Layout.{count_width, earlier_width, reply_length, day_reply_length};
@@ -35,7 +34,6 @@ const CHUNK: usize = 768;
 
 // Feeds the samples that bytes are, chunk by chunk, each decoded on the stack, until one is not taken whole. The place is counted by hand as the answer tells it.
 fn feed_chunks(logger: Logger, bytes: &[u8], records: &mut [u8]) -> Fed
-    requires { ValidState logger.state }
     ensures { fed_to result.logger.state (told_in result.told) records.new ≡ logger_calls.feed logger.state (samples_of bytes.now) records.old }
 {
     let count = bytes.len() / 2;
@@ -113,7 +111,7 @@ fn put_day(reply: &mut [u8], day: DayCount)
 
 // What advance and try begin with: the logger of the image, or restore's refusals; then 12 for an odd number of sample bytes.
 fn resume_for(image: &[u8], samples: &[u8]) -> Result<Logger, Refusal>
-    ensures { (answer_with (λ l. l.state) result ≡ answered (block_refusal image.now samples.now 0) (state_at image.now)) × IfOk result (λ l. ValidState l.state) }
+    ensures { started_told result ≡ answered (block_refusal image.now samples.now 0) (state_at image.now) }
 {
     let logger = Logger::resume(image)?;
     if samples.len() % 2 != 0 {

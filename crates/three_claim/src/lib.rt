@@ -2,11 +2,10 @@
 #![tactic(auto)]
 
 ghost use Rattle.std.specs.Prelude.{◌≡◌};
-ghost use Rattle.three_state.specs.ThreeState.{ValidThree};
 ghost use Rattle.numbers.specs.Refusals.{answer_with};
 ghost use Rattle.reading.specs.Told.{told_in};
 ghost use Rattle.three_reading.specs.ThreeReadings.{three_readings_in};
-ghost use Rattle.three_logger.specs.Logger.{three_started_told, ThreeYieldedValid, three_fed_to};
+ghost use Rattle.three_logger.specs.Logger.{three_started_told, three_fed_to};
 ghost use Rattle.three_logger.specs.Calls.{three_calls};
 ghost use Rattle.three_claim.specs.ThreeClaim.{ThreePhases};
 
@@ -22,21 +21,18 @@ pub fn three_phases()
 // The calls that the claim speaks of are those that run: each of the functions below makes one call of `ThreeLogger` and promises the equation that the claim
 // reads it by. A contract of `ThreeLogger` that said less would not pass here.
 pub fn start(bytes: &[u8]) -> Result<ThreeLogger, Refusal>
-    ensures { (three_started_told result ≡ three_calls.start bytes.now) × ThreeYieldedValid result }
+    ensures { three_started_told result ≡ three_calls.start bytes.now }
 {
     ThreeLogger::start(bytes)
 }
 
 pub fn feed(logger: ThreeLogger, block: &[i16], records: &mut [u8]) -> ThreeFed
-    requires { ValidThree logger.state }
-    ensures { (three_fed_to result.logger.state (answer_with told_in result.answer) records.new ≡ three_calls.feed logger.state block.now records.old)
-        × ValidThree result.logger.state }
+    ensures { three_fed_to result.logger.state (answer_with told_in result.answer) records.new ≡ three_calls.feed logger.state block.now records.old }
 {
     logger.feed(block, records)
 }
 
 pub fn look(logger: ThreeLogger) -> ThreeReadings
-    requires { ValidThree logger.state }
     ensures { three_readings_in result ≡ three_calls.look logger.state }
 {
     logger.look()

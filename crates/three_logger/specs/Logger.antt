@@ -1,5 +1,5 @@
 -- What the calls of a three-phase logger leave, from the parts that their answers have.
-use Rattle.std.specs.Prelude.{List, ℕ, zero, suc, ◌*◌, ℤ, Result, Ok, Err}
+use Rattle.std.specs.Prelude.{List, ℕ, zero, suc, ◌*◌, ℤ, Result}
 use Rattle.numbers.specs.Answers.{Answered}
 use Rattle.numbers.specs.Answers.Answered.{accepted, refused}
 use Rattle.numbers.specs.declared.Refusal.{Refusal}
@@ -9,18 +9,12 @@ use Rattle.three_reading.specs.ThreeCalls.{ThreeOutcome}
 use Rattle.three_reading.specs.ThreeEngineer.{feed_refusal}
 use Rattle.three_reading.specs.Three.{triples_of}
 use Rattle.three_state.specs.declared.ThreeState.{ThreeState}
-use Rattle.three_state.specs.ThreeState.{ValidThree}
 use Rattle.three_state.specs.ThreeFed.{three_fed_with}
 use Rattle.three_logger.specs.declared.ThreeLogger.{ThreeLogger}
 
 -- start's answer, as 01 gives it
 abbrev pub three_started_told : Result ThreeLogger Refusal → Answered ThreeState
 three_started_told r = answer_with (λ (l : ThreeLogger). l.state) r
-
--- a logger that start yields is valid
-abbrev pub ThreeYieldedValid : Result ThreeLogger Refusal → Type 0
-ThreeYieldedValid (Ok l) = ValidThree l.state
-ThreeYieldedValid (Err refusal) = Unit {0}
 
 -- what a feed leaves, and its answer as 02 gives it
 abbrev pub three_fed_to : ThreeState → Answered Told → List ℕ → ThreeOutcome ThreeState

@@ -1,14 +1,7 @@
 // The three-phase logger: a block of samples in turn a, b, c in, records out; its readings.
 #![tactic(auto)]
 
-ghost use Rattle.std.specs.Prelude.{◌≡◌};
-ghost use Rattle.settings.specs.Settings.{ValidSettings};
-ghost use Rattle.three_state.specs.ThreeState.{three_fresh, ValidThree};
-ghost use Rattle.numbers.specs.Refusals.{answer_with};
-ghost use Rattle.reading.specs.Told.{told_in};
-ghost use Rattle.three_reading.specs.ThreeReadings.{three_readings_in};
-ghost use Rattle.three_logger.specs.Logger.{three_started_told, ThreeYieldedValid, three_fed_to};
-ghost use Rattle.three_logger.specs.Calls.{three_calls};
+ghost use Rattle.three_state.specs.ThreeState.{ValidThree};
 
 use numbers::Refusal;
 use reading::Told;
@@ -16,10 +9,11 @@ use settings::Settings;
 use three_reading::ThreeReadings;
 use three_state::ThreeState;
 
-// A three-phase logger. Start and fresh alone make one, and each call keeps it valid.
+// A three-phase logger, valid from its start on.
 #[derive(Clone, Copy)]
 pub struct ThreeLogger {
     state: ThreeState,
+    ghost valid: { ∥ ValidThree state ∥₁ },
 }
 
 // What feed leaves and answers.
@@ -30,9 +24,18 @@ pub struct ThreeFed {
 }
 
 impl ThreeLogger {
+    ghost use Rattle.std.specs.Prelude.{◌≡◌};
+    ghost use Rattle.settings.specs.Settings.{ValidSettings};
+    ghost use Rattle.numbers.specs.Refusals.{answer_with};
+    ghost use Rattle.reading.specs.Told.{told_in};
+    ghost use Rattle.three_reading.specs.ThreeReadings.{three_readings_in};
+    ghost use Rattle.three_state.specs.ThreeState.{three_fresh};
+    ghost use Rattle.three_logger.specs.Logger.{three_started_told, three_fed_to};
+    ghost use Rattle.three_logger.specs.Calls.{three_calls};
+
     // A fresh logger from settings bytes; or the refusal, and no logger.
     pub fn start(bytes: &[u8]) -> Result<ThreeLogger, Refusal>
-        ensures { (three_started_told result ≡ three_calls.start bytes.now) × ThreeYieldedValid result }
+        ensures { three_started_told result ≡ three_calls.start bytes.now }
     {
         let settings = Settings::from_bytes(bytes)?;
         Ok(ThreeLogger::fresh(settings))
@@ -41,18 +44,15 @@ impl ThreeLogger {
     // A logger that has taken no triple, of settings that were read.
     pub fn fresh(settings: Settings) -> ThreeLogger
         requires { ValidSettings settings }
-        ensures { (result.state ≡ three_fresh settings) × ValidThree result.state }
+        ensures { result.state ≡ three_fresh settings }
     {
-        ThreeLogger {
-            state: ThreeState::fresh(settings),
-        }
+        let state = ThreeState::fresh(settings);
+        ThreeLogger { state }
     }
 
     // The greatest number of the block's triples that 02 allows, and their records; a block that is not a multiple of three samples is refused.
     pub fn feed(self, block: &[i16], records: &mut [u8]) -> ThreeFed
-        requires { ValidThree self.state }
-        ensures { (three_fed_to result.logger.state (answer_with told_in result.answer) records.new ≡ three_calls.feed self.state block.now records.old)
-            × ValidThree result.logger.state }
+        ensures { three_fed_to result.logger.state (answer_with told_in result.answer) records.new ≡ three_calls.feed self.state block.now records.old }
     {
         if block.len() % 3 != 0 {
             return ThreeFed {
@@ -92,7 +92,6 @@ impl ThreeLogger {
 
     // What look tells.
     pub fn look(self) -> ThreeReadings
-        requires { ValidThree self.state }
         ensures { three_readings_in result ≡ three_calls.look self.state }
     {
         self.state.look()

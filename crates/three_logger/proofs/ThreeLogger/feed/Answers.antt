@@ -1,13 +1,14 @@
 -- A refused block leaves all as it was; of any other the walk leaves and tells what feed does, by the laws of FeedLaws.
 use Rattle.std.proofs.Common.{arith}
 use Rattle.three_logger.proofs.FeedLaws.{feed-refused, feed-fed, taken-within}
+use Rattle.three_logger.proofs.ThreeSettled.{three-settled}
 use Rattle.three_logger.proofs.ThreeLogger.feed.Goals as goal
 
 pub returns-then-block-ne0 : goal.returns-then-block-ne0
-returns-then-block-ne0 c = (feed-refused c.args.self.state c.args.block.now c.args.records.now c.if-block-ne0.true, c.requires)
+returns-then-block-ne0 c = feed-refused c.args.self.state c.args.block.now c.args.records.now c.if-block-ne0.true
 
 pub walk-walked-requires : goal.walk-walked-requires
-walk-walked-requires c = (c.requires, c.if-block-ne0.false)
+walk-walked-requires c = (three-settled c.args.self.state c.args.self.valid, c.if-block-ne0.false)
 
 pub overflow_mul-result : goal.overflow_mul-result
 overflow_mul-result c =
@@ -18,4 +19,4 @@ overflow_mul-result c =
 pub returns : goal.returns
 returns c =
     let a = c.args in
-    (feed-fed a.self.state a.block.now a.records.now c.if-block-ne0.false _ c.walk-walked.ensures.0, c.walk-walked.ensures.1)
+    feed-fed a.self.state a.block.now a.records.now c.if-block-ne0.false _ c.walk-walked.ensures.0

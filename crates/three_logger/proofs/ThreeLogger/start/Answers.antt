@@ -4,4 +4,4 @@ use Rattle.settings.specs.SettingsLaws.{read-accepted}
 use Rattle.three_logger.proofs.ThreeLogger.start.Goals as goal
 
 pub fresh-requires : goal.fresh-requires
-fresh-requires c = (read-accepted c.args.bytes.now c.in-Read.settings (sym c.in-Read.ensures)).valid
+fresh-requires c = (read-accepted c.args.bytes.now c.in_ok-settings.settings (sym c.in_ok-settings.ensures)).valid
