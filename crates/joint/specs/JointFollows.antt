@@ -31,7 +31,8 @@ use Rattle.three_reading.specs.declared.Three.{Three}
 use Rattle.three_reading.specs.Three.{each, Channel, at, channel, channels}
 use Rattle.three_reading.specs.Three.Channel.{on_a, on_b, on_c}
 use Rattle.three_reading.specs.JointEvents.{joint_begins, joint_ends, joint_since, worst, joint_threshold_due}
-use Rattle.three_reading.specs.JointChanges.{is_true, joint_next, signals, joint_first_stand, joint_dip_or_swell, joint_stood_before, greatest_of, joint_change_event, joint_change_over, joint_change_due}
+use Rattle.three_reading.specs.JointChanges.{is_true, joint_next, signals, joint_first_stand, joint_dip_or_swell, joint_stood_before, greatest_of}
+use Rattle.three_reading.specs.JointChanges.{joint_change_event, joint_change_over, joint_change_due}
 use Rattle.three_reading.specs.JointRecords.{joint_due}
 use Rattle.three_laws.specs.ChannelLaws.{length-channel}
 use Rattle.three_laws.specs.SignalsLaws.{own-signal, all_true, joint-valid, change-lasts}

@@ -35,12 +35,6 @@ use Rattle.joint.specs.Joint.{marked_at, sums_at, standings_by, standings_after,
 use Rattle.joint.specs.Joint.{own_moved_by, all_moved_by, all_moved_of, after_from, due_from, sums_from, joint_after, joint_due_by, joint_sums_of, joint_tried_by}
 use Rattle.joint.specs.Joint.{EnterReady, JointReady}
 
--- the worst of three values is the worse of the first and of the worse of the others
-pub worst-is : (k : Kind) (r : Three ℕ) {others w : ℕ} → others ≡ worse k r.b r.c → w ≡ worse k r.a others → w ≡ worst k r
-worst-is Dip r e f = f ∙ ap (min r.a) e
-worst-is Swell r e f = omega arith
-worst-is Interruption r e f = f ∙ ap (min r.a) e
-
 -- one channel, whose window of n the value y joins after v others
 module _ {s : Settings} {t : Scaled} {v : ℕ} {w ms : List ℕ} {a : Sums} {y : Marked} {o : Own} (ready : EnterReady s t v w ms a y o)
     {n : ℕ} (n-is : n ≡ window_length_of s) where
@@ -69,12 +63,6 @@ module _ {s : Settings} {t : Scaled} {v : ℕ} {w ms : List ℕ} {a : Sums} {y :
         let A = after_is ∙ (λ k. signal_after (n-is k) (J k).joining.number (T k) p) in
         λ k. record { joining = (J k).joining; sums = (J k).sums; signal = A k }
 
--- each channel goes on under the joint signal
-pub moved-is : (n : ℕ) (e : Three Entering) (j : Joint) {steady : Bool} {x y z : OwnMoved} →
-    steady ≡ entered_true e → x ≡ own_moved_by n e.a steady j.own.a → y ≡ own_moved_by n e.b steady j.own.b → z ≡ own_moved_by n e.c steady j.own.c →
-    ◌≡◌ {A = Three OwnMoved} (record { a = x; b = y; c = z }) (all_moved_by n e j)
-moved-is n e j steady-is x-is y-is z-is = rw (x-is, y-is, z-is, steady-is)
-
 -- the three, with the windows ws and the marks of the joint values before the values x
 module _ {s : Settings} {t : Scaled} {j : Joint} {ws : Three (List ℕ)} {ms : List ℕ} {a : JointSums} {x : Values} (ready : JointReady s t j ws ms a x) where
   sums_at_lem : (c : Channel) → sums_at c (joint_sums_of ws ms) ≡ sums_of (at c ws) ms
@@ -95,10 +83,6 @@ module _ {s : Settings} {t : Scaled} {j : Joint} {ws : Three (List ℕ)} {ms : L
     signal-valid = ready.joint-valid.signal-valid c;
     count-lt = ready.count-lt;
   }
-
-  pub entered-is : (stands : Stands) (c : Channel) {y : Marked} {e : Entering} →
-      y ≡ marked_at c x → e ≡ entering_of s j.count (at c ws) ms y stands (at c j.own) → e ≡ entering_at s x j ws ms stands c
-  entered-is stands c y-is e-is = e-is ∙ (λ k. entering_of s j.count (at c ws) ms (y-is k) stands (at c j.own))
 
   entered-at : (stands : Stands) (c : Channel) → at c (entered_of s x j ws ms stands) ≡ entering_at s x j ws ms stands c
   entered-at stands on_a = refl

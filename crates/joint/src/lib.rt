@@ -16,7 +16,8 @@ use three_reading::Three;
 use threshold::Standing;
 use window::Sums;
 
-// The values of three channels, and whether one of them is clipped.
+// The values of three channels, and whether one of them is clipped. That none is above 524,288 each function asks for (`Small3`), and the type does not say it:
+// in specs/ `jointly` makes one of any values.
 #[derive(Clone, Copy)]
 pub struct Values {
     pub sizes: Three<u32>,
@@ -343,7 +344,8 @@ impl Joint {
         }
     }
 
-    // One more value of each channel, worked out from the windows before it, so that nothing has to be undone where its records do not fit.
+    // One more value of each channel, worked out from the windows before it, so that nothing has to be undone where its records do not fit. `scaled` comes beside
+    // the settings that it follows from, since it is worked out once for a block.
     pub fn try_values(
         self,
         settings: Settings,
