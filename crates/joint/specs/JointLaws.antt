@@ -1,14 +1,11 @@
 -- The code's step of three channels, from its parts: what is ready for all three is ready for each, and the parts together are `joint_tried_by`.
-use Rattle.std.specs.Prelude.{◌≡◌, refl, Bool, List, ℕ, suc, ◌+◌, ◌-◌, min, take, drop, if◌then◌else◌}
-use Rattle.std.proofs.Common.{◌∙◌, ap, arith}
+use Rattle.std.specs.Prelude.{◌≡◌, refl, Bool, List, ℕ, suc, ◌+◌, ◌-◌, take, drop, if◌then◌else◌}
+use Rattle.std.proofs.Common.{◌∙◌, ap}
 use Rattle.numbers.specs.Notation.{◌<ᵇ◌}
 use Rattle.settings.specs.declared.Settings.{Settings}
 use Rattle.settings.specs.declared.Scaled.{Scaled}
 use Rattle.settings.specs.Settings.{window_length_of}
-use Rattle.reading.specs.declared.Kind.{Kind}
-use Rattle.reading.specs.declared.Kind.TheVariants.{Dip, Swell, Interruption}
 use Rattle.rms.specs.declared.Marked.{Marked}
-use Rattle.threshold.specs.Standing.{worse}
 use Rattle.window.specs.declared.Sums.{Sums}
 use Rattle.window.specs.WindowValid.{leaving-le}
 use Rattle.rvc.specs.declared.Signal.{Signal}
@@ -22,7 +19,6 @@ use Rattle.detection.specs.DetectionLaws.{part-is, test-ready-at, steady-at}
 use Rattle.three_reading.specs.declared.Three.{Three}
 use Rattle.three_reading.specs.Three.{Channel, at}
 use Rattle.three_reading.specs.Three.Channel.{on_a, on_b, on_c}
-use Rattle.three_reading.specs.JointEvents.{worst}
 use Rattle.joint.specs.declared.Values.{Values}
 use Rattle.joint.specs.declared.Own.{Own}
 use Rattle.joint.specs.declared.Joint.{Joint}
@@ -31,8 +27,8 @@ use Rattle.joint.specs.declared.JointTried.{JointTried}
 use Rattle.joint.specs.declared.Entering.{Entering}
 use Rattle.joint.specs.declared.OwnMoved.{OwnMoved}
 use Rattle.joint.specs.declared.Standings.{Standings}
-use Rattle.joint.specs.Joint.{marked_at, sums_at, standings_by, standings_after, entering_of, entering_at, entered_of, entered_true, EnteredSmall}
-use Rattle.joint.specs.Joint.{own_moved_by, all_moved_by, all_moved_of, after_from, due_from, sums_from, joint_after, joint_due_by, joint_sums_of, joint_tried_by}
+use Rattle.joint.specs.Joint.{marked_at, sums_at, standings_by, standings_after, entering_of, entering_at, entered_of, EnteredSmall}
+use Rattle.joint.specs.Joint.{all_moved_by, all_moved_of, after_from, due_from, sums_from, joint_after, joint_due_by, joint_sums_of, joint_tried_by}
 use Rattle.joint.specs.Joint.{EnterReady, JointReady}
 
 -- one channel, whose window of n the value y joins after v others
