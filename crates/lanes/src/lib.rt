@@ -14,13 +14,11 @@ fn chosen(turn: u16, x: i16, y: i16, z: i16) -> i16
     requires { turn < 3 }
     ensures { result ≡ by_turn turn x y z }
 {
-    if turn == 0 {
-        return x;
+    match turn {
+        0 => x,
+        1 => y,
+        _ => z,
     }
-    if turn == 1 {
-        return y;
-    }
-    z
 }
 
 // Lays each channel's samples side by side, in an order of their own: a sum of squares and a mark do not depend on it. The block is read as three rows of
@@ -39,8 +37,7 @@ fn split(block: &[i16], a: &mut [i16], b: &mut [i16], c: &mut [i16])
     let first: &[i16] = &block[..n];
     let second: &[i16] = &block[n..twice];
     let third: &[i16] = &block[twice..thrice];
-    let mut i: usize = 0;
-    while i < n {
+    for i in 0..n {
         let turn = (i as u16) % 3;
         let x = first[i];
         let y = second[i];
@@ -48,7 +45,6 @@ fn split(block: &[i16], a: &mut [i16], b: &mut [i16], c: &mut [i16])
         a[i] = chosen(turn, x, z, y);
         b[i] = chosen(turn, y, x, z);
         c[i] = chosen(turn, z, y, x);
-        i += 1;
     }
 }
 
@@ -58,13 +54,11 @@ fn split_in_order(block: &[i16], a: &mut [i16], b: &mut [i16], c: &mut [i16])
     ensures { (a.new ≡ channel on_a (triples_of block.now)) × (b.new ≡ channel on_b (triples_of block.now))
         × (c.new ≡ channel on_c (triples_of block.now)) }
 {
-    let mut i: usize = 0;
-    while i < a.len() {
-        let at = 3 * i;
-        a[i] = block[at];
-        b[i] = block[at + 1];
-        c[i] = block[at + 2];
-        i += 1;
+    let (triples, _) = block.as_chunks::<3>();
+    for (i, triple) in triples.iter().enumerate() {
+        a[i] = triple[0];
+        b[i] = triple[1];
+        c[i] = triple[2];
     }
 }
 

@@ -40,10 +40,9 @@ loop-i-preserved c =
     let first = c.chosen in
     let second = c.chosen-in-loop-i in
     let third = c.chosen-in-loop-i-2 in (
-      omega arith,
-      more on_a n l.i block l.invariant.1 refl p.0 inside small first.type_inv first.ensures,
-      more on_b n l.i block l.invariant.2 p.2 p.0 inside small second.type_inv second.ensures,
-      more on_c n l.i block l.invariant.3 p.3 p.0 inside small third.type_inv third.ensures,
+      more on_a n l.i block l.invariant.0 refl p.0 inside small first.type_inv first.ensures,
+      more on_b n l.i block l.invariant.1 p.2 p.0 inside small second.type_inv second.ensures,
+      more on_c n l.i block l.invariant.2 p.3 p.0 inside small third.type_inv third.ensures,
     )
 
 pub returns : goal.returns
@@ -53,7 +52,7 @@ returns c =
     let n = length c.args.a.now in
     let ended : l.i ≡ n = omega arith in
     let block = c.args.block.now in (
-      all on_a n l.i block l.invariant.1 refl p.0 ended,
-      all on_b n l.i block l.invariant.2 p.2 p.0 ended,
-      all on_c n l.i block l.invariant.3 p.3 p.0 ended,
+      all on_a n l.i block l.invariant.0 refl p.0 ended,
+      all on_b n l.i block l.invariant.1 p.2 p.0 ended,
+      all on_c n l.i block l.invariant.2 p.3 p.0 ended,
     )

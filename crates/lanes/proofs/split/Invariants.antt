@@ -7,7 +7,4 @@ use Rattle.lanes.proofs.split.Given as goal
 
 abbrev pub invariant-loop-i : goal.invariant-loop-i
 invariant-loop-i l =
-    (l.i ≤ length l.initial.a) × Laid (lane_in on_a (length l.initial.a) l.block) l.i l.initial.a l.a × Laid (lane_in on_b (length l.initial.a) l.block) l.i l.initial.b l.b × Laid (lane_in on_c (length l.initial.a) l.block) l.i l.initial.c l.c
-
-abbrev pub decreases-loop-i : goal.decreases-loop-i
-decreases-loop-i l = length l.initial.a - l.i
+    Laid (lane_in on_a (length l.initial.a) l.block) l.i l.initial.a l.a × Laid (lane_in on_b (length l.initial.a) l.block) l.i l.initial.b l.b × Laid (lane_in on_c (length l.initial.a) l.block) l.i l.initial.c l.c

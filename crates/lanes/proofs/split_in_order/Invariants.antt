@@ -7,7 +7,4 @@ use Rattle.lanes.proofs.split_in_order.Given as goal
 
 abbrev pub invariant-loop-i : goal.invariant-loop-i
 invariant-loop-i l =
-    (l.i ≤ length l.initial.a) × Laid (channel on_a (triples_of l.block)) l.i l.initial.a l.a × Laid (channel on_b (triples_of l.block)) l.i l.initial.b l.b × Laid (channel on_c (triples_of l.block)) l.i l.initial.c l.c
-
-abbrev pub decreases-loop-i : goal.decreases-loop-i
-decreases-loop-i l = length l.initial.a - l.i
+    Laid (channel on_a (triples_of l.block)) l.i l.initial.a l.a × Laid (channel on_b (triples_of l.block)) l.i l.initial.b l.b × Laid (channel on_c (triples_of l.block)) l.i l.initial.c l.c
