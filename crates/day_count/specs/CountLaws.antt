@@ -79,20 +79,19 @@ module _ (s : Settings) (z day : ℕ) (b : List ℕ) where
   tallied-none = record { seconds = counted_none _ b; firsts = counted_none _ b; all_known = known-none b }
 
   module _ (i second first : ℕ) (known : Bool) (so_far : TalliedTo i second first known) where
-    pub tallied-next : (one : Tally) → i < length b / record_length → one ≡ tally_of s z day (event_of (record_at b i))
-        → TalliedTo (i + 1) (second + one.second) (first + one.first) (known && one.known)
-    tallied-next one h is = record {
+    pub tallied-next : (one : Tally) (one_known : Bool) → i < length b / record_length → one ≡ tally_of s z day (event_of (record_at b i))
+        → one_known ≡ known_kind (event_of (record_at b i)).kind → TalliedTo (i + 1) (second + one.second) (first + one.first) (known && one_known)
+    tallied-next one one_known h is known_is = record {
       seconds = counted_next _ b i second one.second h so_far.seconds (ap (λ (t : Tally). t.second) is);
       firsts = counted_next _ b i first one.first h so_far.firsts (ap (λ (t : Tally). t.first) is);
-      all_known = known_next b i known one.known h so_far.all_known (ap (λ (t : Tally). t.known) is);
+      all_known = known_next b i known one_known h so_far.all_known known_is;
     }
 
-    pub tallied-all : i ≡ length b / record_length → record { second = second; first = first; known = known } ≡ tallied s z day (events_of b)
+    pub tallied-all : i ≡ length b / record_length → record { second = second; first = first } ≡ tallied s z day (events_of b)
     tallied-all whole =
         let second_is = counted-all _ b i second whole so_far.seconds in
         let first-is = counted-all _ b i first whole so_far.firsts in
-        let known_is = known-all b i known whole so_far.all_known in
-        λ j. record { second = second_is j; first = first-is j; known = known_is j }
+        λ j. record { second = second_is j; first = first-is j }
 
 -- the day of a value, without the sum of z and the value
 pub day-split : (z v l : ℕ) → 0 < l → v / l + (z + v % l) / l ≡ (z + v) / l

@@ -10,8 +10,6 @@ use Rattle.reading.specs.Layout.{record_length}
 use Rattle.reading.specs.Records.{events_of}
 use Rattle.day_count.specs.declared.Capped.{Capped}
 use Rattle.day_count.specs.declared.DayCount.{DayCount}
-use Rattle.day_count.specs.declared.Counted.{Counted}
-use Rattle.day_count.specs.declared.Counted.TheVariants.{Day, Refused}
 
 -- a day, in half-cycles
 abbrev pub day_length : Settings → ℕ
@@ -84,8 +82,3 @@ counted_after (refused n) records z above day = refused n
 -- the answer to settings bytes, records in bytes, z, whether above 35 kV, and the day
 unfoldable pub day_counted : List ℕ → List ℕ → ℕ → Bool → ℕ → Answered DayCount
 day_counted settings records z above day = counted_after (settings_read settings) records z above day
-
--- and in the code's words
-abbrev pub counted_told : Counted → Answered DayCount
-counted_told (Day d) = accepted d
-counted_told (Refused n) = refused n

@@ -2,15 +2,17 @@
 #![tactic(auto)]
 
 ghost use Rattle.std.specs.Prelude.{◌≡◌, ◌*◌, ◌^◌, ◌≤◌, ◌<◌};
+ghost use Rattle.numbers.specs.Refusals.{answer_in};
 ghost use Rattle.settings.specs.Settings.{window_length_of};
 ghost use Rattle.reading.specs.Records.{events_of};
-ghost use Rattle.day_count.specs.Days.{day_length, day_of, change_on, cap, capped, known_kind, counted_under, day_counted, counted_told};
+ghost use Rattle.day_count.specs.Days.{day_length, day_of, change_on, cap, capped, known_kind, counted_under, day_counted};
 ghost use Rattle.day_count.specs.DayBench.{DayReadings};
-ghost use Rattle.day_count.specs.Count.{tally_of, tallied};
+ghost use Rattle.day_count.specs.Count.{tally_of, tally_answer};
 
-use reading::Event;
+use numbers::Refusal;
+use reading::{Event, Kind};
 use records::RECORD_LENGTH;
-use settings::{Settings, SettingsRead};
+use settings::Settings;
 
 // Seconds in a day, of N half-cycles each.
 const SECONDS: u64 = 86_400;
@@ -34,19 +36,11 @@ pub struct DayCount {
     pub first: Capped,
 }
 
-// A day's count, or 02's number of the refusal.
-#[derive(Clone, Copy)]
-pub enum Counted {
-    Day(DayCount),
-    Refused(u32),
-}
-
-// Of records: how many count by their second magnitude, how many by their first, and whether all kinds are 1 to 4.
+// Of records: how many count by their second magnitude, and how many by their first.
 #[derive(Clone, Copy)]
 struct Tally {
     second: u64,
     first: u64,
-    known: bool,
 }
 
 // A day in half-cycles.
@@ -71,10 +65,7 @@ fn change_on(settings: Settings, z: u64, day: u64, event: Event) -> bool
     ensures { result ≡ change_on settings z day event }
 {
     let start = event.start;
-    if event.kind != Event::CHANGE {
-        return false;
-    }
-    day_of(settings, z, start) == day
+    event.kind == Event::CHANGE && day_of(settings, z, start) == day
 }
 
 // So many percent of the declared voltage, a hundred times, in N-ths: what a hundred times a magnitude is held against.
@@ -82,14 +73,14 @@ fn percent(settings: Settings, part: u64) -> u64
     requires { part ≤ 100 }
     ensures { result ≡ part * window_length_of settings * settings.declared }
 {
-    part * settings.window_length() * settings.declared as u64
+    part * settings.window_length() * u64::from(settings.declared)
 }
 
 // Whether a record's kind is one of the four.
 fn is_known(event: Event) -> bool
     ensures { result ≡ known_kind event.kind }
 {
-    (Event::DIP <= event.kind) & (event.kind <= Event::CHANGE)
+    Kind::Dip.number() <= event.kind && event.kind <= Event::CHANGE
 }
 
 // What one record comes to.
@@ -101,37 +92,29 @@ fn tally_of(settings: Settings, z: u64, day: u64, event: Event) -> Tally
     let second = percent(settings, 3) <= 100 * event.second;
     let first = percent(settings, 5) < 100 * event.first;
     Tally {
-        second: numbers::flag(on & second) as u64,
-        first: numbers::flag(on & first) as u64,
-        known: is_known(event),
+        second: u64::from(on && second),
+        first: u64::from(on && first),
     }
 }
 
-// What the whole records in bytes come to; what is behind them is passed over.
-fn tally_list(settings: Settings, records: &[u8], z: u64, day: u64) -> Tally
+// What the whole records in bytes come to, or that the kind of one is none; what is behind them is passed over.
+fn tally_list(settings: Settings, records: &[u8], z: u64, day: u64) -> Result<Tally, Refusal>
     requires { z < day_length settings }
-    ensures { result ≡ tallied settings z day (events_of records.now) }
+    ensures { answer_in result ≡ tally_answer settings z day (events_of records.now) }
 {
-    let count = records.len() / RECORD_LENGTH;
+    let (whole, _) = records.as_chunks::<RECORD_LENGTH>();
     let mut second: u64 = 0;
     let mut first: u64 = 0;
-    let mut known = true;
-    let mut i = 0;
-    while i < count {
-        let start = RECORD_LENGTH * i;
-        let end = start + RECORD_LENGTH;
-        let event = records::get_record(&records[start..end]);
+    for bytes in whole {
+        let event = records::get_record(bytes);
+        if !is_known(event) {
+            return Err(Refusal::RecordKind);
+        }
         let one = tally_of(settings, z, day, event);
         second += one.second;
         first += one.first;
-        known = known & one.known;
-        i += 1;
     }
-    Tally {
-        second,
-        first,
-        known,
-    }
+    Ok(Tally { second, first })
 }
 
 // The cap on each count.
@@ -151,23 +134,25 @@ fn against_cap(count: u64, above: bool) -> Capped
     }
 }
 
-// Under settings that start accepts: 15, 16, 17, or the count.
-fn count_under(settings: Settings, records: &[u8], z: u64, above: bool, day: u64) -> Counted
-    ensures { counted_told result ≡ counted_under settings records.now z above day }
+// Under settings that start accepts: a refusal of the list, or the count.
+#[tactic(auto, unfolding(crate::specs::Days::list_refusal, crate::specs::Days::day_count))]
+fn count_under(
+    settings: Settings,
+    records: &[u8],
+    z: u64,
+    above: bool,
+    day: u64,
+) -> Result<DayCount, Refusal>
+    ensures { answer_in result ≡ counted_under settings records.now z above day }
 {
     if day_length(settings) <= z {
-        return Counted::Refused(15);
+        return Err(Refusal::DayStart);
     }
-    let tally = tally_list(settings, records, z, day);
-    let whole = records.len() % RECORD_LENGTH == 0;
-    let known = tally.known;
-    if !whole {
-        return Counted::Refused(16);
+    if records.len() % RECORD_LENGTH != 0 {
+        return Err(Refusal::PartRecord);
     }
-    if !known {
-        return Counted::Refused(17);
-    }
-    Counted::Day(DayCount {
+    let tally = tally_list(settings, records, z, day)?;
+    Ok(DayCount {
         second: against_cap(tally.second, above),
         first: against_cap(tally.first, above),
     })
@@ -175,13 +160,18 @@ fn count_under(settings: Settings, records: &[u8], z: u64, above: bool, day: u64
 
 // Counts the changes of a day in a list of records. Value 0 lies z half-cycles after midnight; `above` says whether the supply is above 35 kV;
 // days count from 0.
-pub fn count_day(settings: &[u8], records: &[u8], z: u64, above: bool, day: u64) -> Counted
-    ensures { counted_told result ≡ day_counted settings.now records.now z above day }
+#[tactic(auto, unfolding(crate::specs::Days::day_counted))]
+pub fn count_day(
+    settings: &[u8],
+    records: &[u8],
+    z: u64,
+    above: bool,
+    day: u64,
+) -> Result<DayCount, Refusal>
+    ensures { answer_in result ≡ day_counted settings.now records.now z above day }
 {
-    match Settings::from_bytes(settings) {
-        SettingsRead::Read(accepted) => count_under(accepted, records, z, above, day),
-        SettingsRead::Refused(number) => Counted::Refused(number),
-    }
+    let accepted = Settings::from_bytes(settings)?;
+    count_under(accepted, records, z, above, day)
 }
 
 // Bench readings of the count per day, as one promise about its definitions.

@@ -1,6 +1,5 @@
 -- A percentage of a window of at most 120 times a number of 4 bytes fits 8.
-use mathlib.Core.Path.{ap}
-use Prim.Native.Nat.{ℕ, ◌*◌, ◌≤◌}
+use Prim.Native.Nat.{◌≤◌}
 use native.Mathlib.Nat.{mul-le-mul}
 use native.Mathlib.Omega.{arith}
 use Rattle.day_count.proofs.percent.Goals as goal
@@ -10,10 +9,8 @@ overflow_mul-result c = omega (arith, mul-le-mul c.requires c.window_length.ensu
 
 pub overflow_mul-result-2 : goal.overflow_mul-result-2
 overflow_mul-result-2 c =
-    let declared : c.args.settings.declared ≤ 4294967295 = omega arith in
+    let declared : c.from.result ≤ 4294967295 = omega arith in
     omega (arith, mul-le-mul (mul-le-mul c.requires c.window_length.ensures.2) declared)
 
 pub returns : goal.returns
-returns c =
-    let a = c.args in
-    ap (λ (n : ℕ). a.part * n * a.settings.declared) c.window_length.ensures.0
+returns c = rw (c.window_length.ensures.0, c.from.ensures)

@@ -1,53 +1,85 @@
-use mathlib.Core.Path.{◌∙◌, ap}
-use mathlib.Core.Bool.{◌&&◌}
-use Prim.Native.Nat.{◌+◌}
-use native.Mathlib.Omega.{arith}
+use Rattle.std.proofs.Common.{◌≡◌, sym, ◌∙◌, ap, arith, Bool, true, false, List, [], ℕ, ◌+◌, ◌/◌, ◌<◌, length, get_or}
+use Rattle.std.specs.Simd.{first_chunks}
+use Rattle.numbers.specs.Notation.{refuse◌unless◌then◌}
+use Rattle.numbers.specs.Answers.{answered}
 use Rattle.octets.specs.BytesLaws.{bytes-by}
-use Rattle.records.specs.ListLaws.{record-length, magnitudes-fit}
-use Rattle.day_count.specs.Count.{tally_of}
-use Rattle.day_count.specs.CountLaws.{TalliedTo, tallied-none, tallied-next, tallied-all}
+use Rattle.reading.specs.declared.Event.{Event}
+use Rattle.reading.specs.Layout.{record_length}
+use Rattle.reading.specs.Records.{event_of, events_of}
+use Rattle.records.specs.ListLaws.{record_at, record-length, magnitudes-fit}
+use Rattle.day_count.specs.declared.Tally.{Tally}
+use Rattle.day_count.specs.Days.{known_kind}
+use Rattle.day_count.specs.Count.{tally_of, tallied}
+use Rattle.day_count.specs.CountLaws.{TalliedTo, tallied-none, tallied-next, tallied-all, known_next, known-all}
+use Rattle.day_count.proofs.Chunks.{cut}
 use Rattle.day_count.proofs.tally_list.Goals.{After-tally_of-one}
 use Rattle.day_count.proofs.tally_list.Goals as goal
+
+-- the event that a turn reads, and whether its kind is known
+event-is : (whole : List (List ℕ)) (b : List ℕ) (i : ℕ) {event : Event} → whole ≡ first_chunks record_length (length b / record_length) b → i < length b / record_length
+    → event ≡ event_of (get_or whole i []) → event ≡ event_of (record_at b i)
+event-is whole b i front h is = is ∙ ap event_of (cut whole b i front h)
+
+known-is : {event told : Event} {known : Bool} → event ≡ told → known ≡ known_kind event.kind → known ≡ known_kind told.kind
+known-is is known = known ∙ ap (λ (e : Event). known_kind e.kind) is
 
 -- with what the record adds
 after : (c : After-tally_of-one) →
     let a = c.args in
-    let loop = c.loop-i in
+    let loop = c.loop-bytes in
     let one = c.tally_of-one.result in
-    TalliedTo a.settings a.z a.day a.records.now (loop.i + 1) (loop.second + one.second) (loop.first + one.first) (loop.known && one.known)
+    TalliedTo a.settings a.z a.day a.records.now (loop.bytes-index + 1) (loop.second + one.second) (loop.first + one.first) true
 after c =
     let a = c.args in
-    let loop = c.loop-i in
-    tallied-next a.settings a.z a.day a.records.now loop.i loop.second loop.first loop.known loop.invariant.1 c.tally_of-one.result
-    c.loop-i-test.true (c.tally_of-one.ensures ∙ ap (tally_of a.settings a.z a.day) c.get_record-event.ensures)
+    let loop = c.loop-bytes in
+    let is = event-is c.as_chunks.result.0.now a.records.now loop.bytes-index c.as_chunks.ensures.front (omega arith) c.get_record-event.ensures in
+    tallied-next a.settings a.z a.day a.records.now loop.bytes-index loop.second loop.first true loop.invariant c.tally_of-one.result true
+    (omega arith) (c.tally_of-one.ensures ∙ ap (tally_of a.settings a.z a.day) is)
+    (known-is is (sym c.if-not-is_known.false ∙ c.is_known.ensures))
 
-pub loop-i-init : goal.loop-i-init
-loop-i-init c = (omega arith, tallied-none _ _ _ _)
+pub loop-bytes-init : goal.loop-bytes-init
+loop-bytes-init c = tallied-none _ _ _ _
 
 pub get_record-event-requires : goal.get_record-event-requires
 get_record-event-requires c =
-    let a = c.args in
-    record-length a.records.now c.loop-i.i (omega (arith, c.loop-i-test.true))
+    let b = c.args.records.now in
+    let i = c.loop-bytes.bytes-index in
+    ap length (cut c.as_chunks.result.0.now b i c.as_chunks.ensures.front (omega arith)) ∙ record-length b i (omega arith)
 
 pub tally_of-one-requires : goal.tally_of-one-requires
 tally_of-one-requires c =
     let b = c.args.records.now in
     let are = bytes-by b (λ k. (c.type_inv.records k).fits) in
-    let fit = magnitudes-fit b c.loop-i.i are in
-    let is = c.get_record-event.ensures in
+    let fit = magnitudes-fit b c.loop-bytes.bytes-index are in
+    let is = event-is c.as_chunks.result.0.now b c.loop-bytes.bytes-index c.as_chunks.ensures.front (omega arith) c.get_record-event.ensures in
     (c.requires, rw is fit.0, rw is fit.1)
 
 pub overflow_add-second : goal.overflow_add-second
-overflow_add-second c = record { fits = omega (arith, (after (goal.at.overflow_add-second c).After-tally_of-one).seconds.most, c.loop-i-test.true) }
+overflow_add-second c = record { fits = omega (arith, (after (goal.at.overflow_add-second c).After-tally_of-one).seconds.most) }
 
 pub overflow_add-first : goal.overflow_add-first
-overflow_add-first c = record { fits = omega (arith, (after (goal.at.overflow_add-first c).After-tally_of-one).firsts.most, c.loop-i-test.true) }
+overflow_add-first c = record { fits = omega (arith, (after (goal.at.overflow_add-first c).After-tally_of-one).firsts.most) }
 
-pub loop-i-preserved : goal.loop-i-preserved
-loop-i-preserved c = (omega (arith, c.loop-i-test.true), after (goal.at.loop-i-preserved c).After-tally_of-one)
+pub loop-bytes-preserved : goal.loop-bytes-preserved
+loop-bytes-preserved c = after (goal.at.loop-bytes-preserved c).After-tally_of-one
+
+pub returns-then-not-is_known : goal.returns-then-not-is_known
+returns-then-not-is_known c =
+    let a = c.args in
+    let b = a.records.now in
+    let i = c.loop-bytes.bytes-index in
+    let is = event-is c.as_chunks.result.0.now b i c.as_chunks.ensures.front (omega arith) c.get_record-event.ensures in
+    let unknown : false ≡ known_kind (event_of (record_at b i)).kind = known-is is (sym c.if-not-is_known.true ∙ c.is_known.ensures) in
+    ap (λ (known : Bool). answered (refuse 17 unless known then 0) (tallied a.settings a.z a.day (events_of b)))
+    (known_next b i true false (omega arith) c.loop-bytes.invariant.all_known unknown)
 
 pub returns : goal.returns
 returns c =
     let a = c.args in
-    let loop = c.loop-i in
-    tallied-all a.settings a.z a.day a.records.now loop.i loop.second loop.first loop.known loop.invariant.1 (omega (arith, c.loop-i-test.false, loop.invariant.0))
+    let b = a.records.now in
+    let loop = c.loop-bytes in
+    let whole : loop.bytes-index ≡ length b / record_length = omega arith in
+    let t : Tally = record { second = loop.second; first = loop.first } in
+    ap (λ (u : Tally). answered 0 u) (tallied-all a.settings a.z a.day b loop.bytes-index loop.second loop.first true loop.invariant whole)
+    ∙ ap (λ (known : Bool). answered (refuse 17 unless known then 0) (tallied a.settings a.z a.day (events_of b)))
+    (known-all b loop.bytes-index true whole loop.invariant.all_known)
