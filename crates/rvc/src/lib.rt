@@ -1,9 +1,8 @@
 // Rapid voltage changes: the steady signal, the phase with what a change in progress carries, and one value's step of each.
 #![tactic(auto)]
 
-ghost use Rattle.std.specs.Prelude.{◌≡◌, ◌||◌, ◌*◌, ◌≤◌, max, slice_index, if◌then◌else◌};
-ghost use Rattle.numbers.specs.Notation.{◌<ᵇ◌, ◌≡ᵇ◌};
-ghost use Rattle.reading.specs.Changes.{gap};
+ghost use Rattle.std.specs.Prelude.{◌≡◌, slice_index, if◌then◌else◌};
+ghost use Rattle.numbers.specs.Notation.{◌<ᵇ◌};
 ghost use Rattle.reading.specs.Readings.{phase_kind_number};
 ghost use Rattle.rvc.specs.Signal.{limit_of, held_at, steady_by, signal_after, TestReady};
 ghost use Rattle.rvc.specs.Phase.{change_from, grown, closing, signal_in, onward, ended_of, moved_by, moved_on, phase_row, ChangeReady, Joins};
@@ -87,28 +86,6 @@ fn kept_stand(kept: u64, stands: bool, i: u64) -> u64
     if stands { i } else { 0 }
 }
 
-// The greatest difference, `age` values after the change's start: with the value that leaves the window, once that is one of the change's own.
-fn greatest(window_length: u64, age: u64, leaving: u64, sum: u64, kept: u64) -> u64
-    requires { (window_length ≤ 120) × (leaving ≤ 524288) }
-    ensures { result ≡ (if age <ᵇ window_length then kept else max (gap (window_length * leaving) sum) kept) }
-{
-    if age < window_length {
-        return kept;
-    }
-    let difference = (window_length * leaving).abs_diff(sum);
-    difference.max(kept)
-}
-
-// Whether a value from k to V − N is clipped: with the value that leaves the window, as above.
-fn marked(window_length: u64, age: u64, mark: u64, kept: bool) -> bool
-    ensures { result ≡ (if age <ᵇ window_length then kept else mark ≡ᵇ 1 || kept) }
-{
-    if window_length <= age {
-        return (mark == 1) | kept;
-    }
-    kept
-}
-
 impl Signal {
     // The limit in force.
     fn limit(self, scaled: Scaled) -> u64
@@ -181,23 +158,21 @@ impl Change {
         }
     }
 
+    // With a value more. The one that leaves the window counts once it is one of the change's own.
     fn with_value(self, window_length: u64, joining: Joining) -> Change
         requires { ChangeReady window_length joining }
         ensures { result ≡ grown window_length joining self }
     {
-        let age = joining.number.saturating_sub(self.start);
-        let difference = greatest(
-            window_length,
-            age,
-            joining.leaving,
-            self.sum,
-            self.difference,
-        );
         let stand = kept_stand(self.stand, joining.stands.first, joining.number);
+        let age = joining.number.saturating_sub(self.start);
+        if age < window_length {
+            return Change { stand, ..self };
+        }
+        let difference = (window_length * joining.leaving).abs_diff(self.sum);
         Change {
-            difference,
+            difference: difference.max(self.difference),
             stand,
-            clipped: marked(window_length, age, joining.mark, self.clipped),
+            clipped: (joining.mark == 1) | self.clipped,
             ..self
         }
     }
