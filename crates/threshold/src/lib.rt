@@ -72,6 +72,7 @@ impl Standing {
     }
 
     // After value i, which begins the event, ends it, or leaves it as it was. The two tests come from the caller, as three channels share theirs (`stepped`).
+    #[tactic(auto, unfolding(crate::specs::Standing::stepped))]
     pub fn step(
         self,
         kind: Kind,
@@ -93,10 +94,7 @@ impl Standing {
             }
             return self.with_value(kind, value, clipped);
         }
-        if ends {
-            return Standing::none();
-        }
-        if self.start == 0 {
+        if ends | (self.start == 0) {
             return Standing::none();
         }
         self.with_value(kind, value, clipped)
