@@ -231,6 +231,7 @@ impl Gatherer {
     }
 
     // The cut: the one place that decides where a half-cycle ends.
+    #[tactic(auto, unfolding(crate::specs::Gather::cut))]
     pub fn cut(self, half_length: u32, samples: &[i16]) -> Share
         requires { self.count < half_length }
         ensures { result ≡ cut_of half_length self samples.now }

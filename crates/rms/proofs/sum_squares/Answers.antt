@@ -1,22 +1,22 @@
 -- The rows of eight and the rest together are the samples (`joined-chunks`).
-use Rattle.std.proofs.Common.{◌≡◌, ℕ, ◌*◌, ◌/◌, ◌<◌, ◌++◌, List, ℤ, length, get_or, take, drop, pos, sym, ap, ◌∙◌, append-nil, arith, length-append, length-take-le, take_all}
+use Rattle.std.proofs.Common.{◌≡◌, ℕ, ◌*◌, ◌/◌, ◌<◌, ◌++◌, List, ℤ, length, get_or, take, drop, pos, ap, ◌∙◌, arith, length-append, length-take-le, take_all, w16, SFits, to_z, of_z}
 use Rattle.std.specs.Simd.{first_chunks}
 use Rattle.rms.specs.declared.Part.{Part}
-use Rattle.rms.specs.Gather.{joined, part_of}
-use Rattle.rms.proofs.Squares.{squared-is}
+use Rattle.rms.specs.declared.Squared.{Squared}
+use Rattle.rms.specs.Gather.{squared_of, joined, part_of}
+use mir.ValLaws.{to_z-of_z}
 use Rattle.rms.proofs.Passed.{part-next, joined-chunks}
 use Rattle.rms.proofs.sum_squares.Goals as goal
+
+-- a sample's square and mark, as it is read from a slice
+squared-is : {r : Squared} (z : ℤ) → SFits w16 z → r ≡ squared_of (to_z w16 (of_z w16 z)) → r ≡ squared_of z
+squared-is z h e = e ∙ ap squared_of (to_z-of_z w16 z h)
 
 abbrev front : List ℤ → List ℤ
 front xs = joined (first_chunks 8 (length xs / 8) xs)
 
 all : {xs rest : List ℤ} → rest ≡ drop (length xs / 8 * 8) xs → front xs ++ rest ≡ xs
 all {xs} e = ap (λ (ys : List ℤ). front xs ++ ys) e ∙ joined-chunks 8 (length xs / 8) xs
-
-pub loop-sample-init : goal.loop-sample-init
-loop-sample-init c =
-    let e = c.sum_eights-part.ensures in
-    (e.0 ∙ ap (λ (rows : List (List ℤ)). part_of (joined rows)) c.as_chunks.ensures.front ∙ ap part_of (sym (append-nil (front c.args.samples.now))), e.1)
 
 -- the samples passed are no more than all
 passed-most : (xs rest : List ℤ) (i : ℕ) {p : Part} → front xs ++ rest ≡ xs → i < length rest → p ≡ part_of (front xs ++ take i rest) → p.count < length xs
