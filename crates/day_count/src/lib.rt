@@ -50,24 +50,6 @@ fn day_length(settings: Settings) -> u64
     SECONDS * settings.window_length()
 }
 
-// The day of a value. The sum of z and the value is not taken: 8 bytes may not hold it.
-fn day_of(settings: Settings, z: u64, value: u64) -> u64
-    requires { z < day_length settings }
-    ensures { result ≡ day_of settings z value }
-{
-    let length = day_length(settings);
-    value / length + (z + value % length) / length
-}
-
-// Whether a record is a change of the day.
-fn change_on(settings: Settings, z: u64, day: u64, event: Event) -> bool
-    requires { z < day_length settings }
-    ensures { result ≡ change_on settings z day event }
-{
-    let start = event.start;
-    event.kind == Event::CHANGE && day_of(settings, z, start) == day
-}
-
 // So many percent of the declared voltage, a hundred times, in N-ths: what a hundred times a magnitude is held against.
 fn percent(settings: Settings, part: u64) -> u64
     requires { part ≤ 100 }
@@ -83,38 +65,64 @@ fn is_known(event: Event) -> bool
     Kind::Dip.number() <= event.kind && event.kind <= Event::CHANGE
 }
 
-// What one record comes to.
-fn tally_of(settings: Settings, z: u64, day: u64, event: Event) -> Tally
-    requires { (z < day_length settings) × (event.first < 2 ^ 32) × (event.second < 2 ^ 32) }
-    ensures { result ≡ tally_of settings z day event }
-{
-    let on = change_on(settings, z, day, event);
-    let second = percent(settings, 3) <= 100 * event.second;
-    let first = percent(settings, 5) < 100 * event.first;
-    Tally {
-        second: u64::from(on && second),
-        first: u64::from(on && first),
-    }
+// A day by its number, under settings: days count from 0, and value 0 lies z half-cycles after the midnight that begins it.
+#[derive(Clone, Copy)]
+struct Day {
+    settings: Settings,
+    z: u64,
+    day: u64,
+    ghost begun: { z < day_length settings },
 }
 
-// What the whole records in bytes come to, or that the kind of one is none; what is behind them is passed over.
-fn tally_list(settings: Settings, records: &[u8], z: u64, day: u64) -> Result<Tally, Refusal>
-    requires { z < day_length settings }
-    ensures { answer_in result ≡ tally_answer settings z day (events_of records.now) }
-{
-    let (whole, _) = records.as_chunks::<RECORD_LENGTH>();
-    let mut second: u64 = 0;
-    let mut first: u64 = 0;
-    for bytes in whole {
-        let event = records::get_record(bytes);
-        if !is_known(event) {
-            return Err(Refusal::RecordKind);
-        }
-        let one = tally_of(settings, z, day, event);
-        second += one.second;
-        first += one.first;
+impl Day {
+    // The day of a value. The sum of z and the value is not taken: 8 bytes may not hold it.
+    fn of_value(self, value: u64) -> u64
+        ensures { result ≡ day_of self.settings self.z value }
+    {
+        let length = day_length(self.settings);
+        value / length + (self.z + value % length) / length
     }
-    Ok(Tally { second, first })
+
+    // Whether a record is a change of the day.
+    fn has_change(self, event: Event) -> bool
+        ensures { result ≡ change_on self.settings self.z self.day event }
+    {
+        let start = event.start;
+        event.kind == Event::CHANGE && self.of_value(start) == self.day
+    }
+
+    // What one record comes to.
+    fn tally_of(self, event: Event) -> Tally
+        requires { (event.first < 2 ^ 32) × (event.second < 2 ^ 32) }
+        ensures { result ≡ tally_of self.settings self.z self.day event }
+    {
+        let on = self.has_change(event);
+        let second = percent(self.settings, 3) <= 100 * event.second;
+        let first = percent(self.settings, 5) < 100 * event.first;
+        Tally {
+            second: u64::from(on && second),
+            first: u64::from(on && first),
+        }
+    }
+
+    // What the whole records in bytes come to, or that the kind of one is none; what is behind them is passed over.
+    fn tally_list(self, records: &[u8]) -> Result<Tally, Refusal>
+        ensures { answer_in result ≡ tally_answer self.settings self.z self.day (events_of records.now) }
+    {
+        let (whole, _) = records.as_chunks::<RECORD_LENGTH>();
+        let mut second: u64 = 0;
+        let mut first: u64 = 0;
+        for bytes in whole {
+            let event = records::get_record(bytes);
+            if !is_known(event) {
+                return Err(Refusal::RecordKind);
+            }
+            let one = self.tally_of(event);
+            second += one.second;
+            first += one.first;
+        }
+        Ok(Tally { second, first })
+    }
 }
 
 // The cap on each count.
@@ -148,10 +156,11 @@ fn count_under(
     if day_length(settings) <= z {
         return Err(Refusal::DayStart);
     }
+    let counted = Day { settings, z, day };
     if records.len() % RECORD_LENGTH != 0 {
         return Err(Refusal::PartRecord);
     }
-    let tally = tally_list(settings, records, z, day)?;
+    let tally = counted.tally_list(records)?;
     Ok(DayCount {
         second: against_cap(tally.second, above),
         first: against_cap(tally.first, above),

@@ -12,8 +12,8 @@ use Rattle.day_count.specs.Days.{known_kind}
 use Rattle.day_count.specs.Count.{tally_of, tallied}
 use Rattle.day_count.specs.CountLaws.{TalliedTo, tallied-none, tallied-next, tallied-all, known_next, known-all}
 use Rattle.day_count.proofs.Chunks.{cut}
-use Rattle.day_count.proofs.tally_list.Goals.{After-tally_of-one}
-use Rattle.day_count.proofs.tally_list.Goals as goal
+use Rattle.day_count.proofs.Day.tally_list.Goals.{After-tally_of-one}
+use Rattle.day_count.proofs.Day.tally_list.Goals as goal
 
 -- the event that a turn reads, and whether its kind is known
 event-is : (whole : List (List ℕ)) (b : List ℕ) (i : ℕ) {event : Event} → whole ≡ first_chunks record_length (length b / record_length) b → i < length b / record_length
@@ -28,13 +28,13 @@ after : (c : After-tally_of-one) →
     let a = c.args in
     let loop = c.loop-bytes in
     let one = c.tally_of-one.result in
-    TalliedTo a.settings a.z a.day a.records.now (loop.bytes-index + 1) (loop.second + one.second) (loop.first + one.first) true
+    TalliedTo a.self.settings a.self.z a.self.day a.records.now (loop.bytes-index + 1) (loop.second + one.second) (loop.first + one.first) true
 after c =
     let a = c.args in
     let loop = c.loop-bytes in
     let is = event-is c.as_chunks.result.0.now a.records.now loop.bytes-index c.as_chunks.ensures.front (omega arith) c.get_record-event.ensures in
-    tallied-next a.settings a.z a.day a.records.now loop.bytes-index loop.second loop.first true loop.invariant c.tally_of-one.result true
-    (omega arith) (c.tally_of-one.ensures ∙ ap (tally_of a.settings a.z a.day) is)
+    tallied-next a.self.settings a.self.z a.self.day a.records.now loop.bytes-index loop.second loop.first true loop.invariant c.tally_of-one.result true
+    (omega arith) (c.tally_of-one.ensures ∙ ap (tally_of a.self.settings a.self.z a.self.day) is)
     (known-is is (sym c.if-not-is_known.false ∙ c.is_known.ensures))
 
 pub loop-bytes-init : goal.loop-bytes-init
@@ -52,7 +52,7 @@ tally_of-one-requires c =
     let are = bytes-by b (λ k. (c.type_inv.records k).fits) in
     let fit = magnitudes-fit b c.loop-bytes.bytes-index are in
     let is = event-is c.as_chunks.result.0.now b c.loop-bytes.bytes-index c.as_chunks.ensures.front (omega arith) c.get_record-event.ensures in
-    (c.requires, rw is fit.0, rw is fit.1)
+    (rw is fit.0, rw is fit.1)
 
 pub overflow_add-second : goal.overflow_add-second
 overflow_add-second c = record { fits = omega (arith, (after (goal.at.overflow_add-second c).After-tally_of-one).seconds.most) }
@@ -70,7 +70,7 @@ returns-then-not-is_known c =
     let i = c.loop-bytes.bytes-index in
     let is = event-is c.as_chunks.result.0.now b i c.as_chunks.ensures.front (omega arith) c.get_record-event.ensures in
     let unknown : false ≡ known_kind (event_of (record_at b i)).kind = known-is is (sym c.if-not-is_known.true ∙ c.is_known.ensures) in
-    ap (λ (known : Bool). answered (refuse 17 unless known then 0) (tallied a.settings a.z a.day (events_of b)))
+    ap (λ (known : Bool). answered (refuse 17 unless known then 0) (tallied a.self.settings a.self.z a.self.day (events_of b)))
     (known_next b i true false (omega arith) c.loop-bytes.invariant.all_known unknown)
 
 pub returns : goal.returns
@@ -80,6 +80,6 @@ returns c =
     let loop = c.loop-bytes in
     let whole : loop.bytes-index ≡ length b / record_length = omega arith in
     let t : Tally = record { second = loop.second; first = loop.first } in
-    ap (λ (u : Tally). answered 0 u) (tallied-all a.settings a.z a.day b loop.bytes-index loop.second loop.first true loop.invariant whole)
-    ∙ ap (λ (known : Bool). answered (refuse 17 unless known then 0) (tallied a.settings a.z a.day (events_of b)))
+    ap (λ (u : Tally). answered 0 u) (tallied-all a.self.settings a.self.z a.self.day b loop.bytes-index loop.second loop.first true loop.invariant whole)
+    ∙ ap (λ (known : Bool). answered (refuse 17 unless known then 0) (tallied a.self.settings a.self.z a.self.day (events_of b)))
     (known-all b loop.bytes-index true whole loop.invariant.all_known)
