@@ -1,5 +1,6 @@
 -- The samples of bytes, fed chunk by chunk: the invariant of `feed_chunks`, over what is fed so far. A chunk that is taken whole is a turn, one that is not ends it,
 -- and with no sample left it is done.
+use Rattle.std.specs.Prelude.{Option, Some, None, is_some, true, false}
 use mathlib.Core.Path.{◌≡◌, refl, sym, ◌∙◌, ap}
 use mathlib.Core.List.{List, [], ◌++◌}
 use Prim.Native.Nat.{ℕ, ◌+◌, ◌-◌, ◌*◌, ◌/◌, ◌≤◌, ◌<◌}
@@ -8,7 +9,9 @@ use lib.ListN.{length, take, drop, length-drop, take-append-drop}
 use lib.Seq.{take_at, drop-length}
 use lib.IntN.{ℤ}
 use borrow.Rule.Slice.PartMut.{put_mid}
-use Rattle.reading.specs.Told.{Told}
+use Rattle.reading.specs.declared.Stop.{Stop}
+use Rattle.reading.specs.declared.Stop.TheVariants.{Room, End}
+use Rattle.reading.specs.Told.{Told, why_number}
 use Rattle.reading.specs.Engineer.{room}
 use Rattle.reading.specs.Layout.{record_length}
 use Rattle.samples.specs.Samples.{samples_of}
@@ -20,6 +23,16 @@ use Rattle.state.specs.State.{ValidState}
 use Rattle.state.specs.Step.{machine}
 use Rattle.state.specs.Calls.{fed_with}
 use Rattle.logger.specs.Logger.{fed_to}
+
+-- whether there is a reason, and its number
+pub why-none : (why : Option Stop) → is_some why ≡ false → why_number why ≡ 0
+why-none None e = refl
+why-none (Some stop) e = let z : ◌≡◌ {A = ℕ} 0 1 = cc in absurd (omega arith)
+
+pub why-some : (why : Option Stop) → is_some why ≡ true → 0 < why_number why
+why-some None e = let z : ◌≡◌ {A = ℕ} 0 1 = cc in absurd (omega arith)
+why-some (Some Room) e = omega arith
+why-some (Some End) e = omega arith
 
 module _ (st₀ : State) (b lent : List ℕ) where
   pub record Chunks (out : List ℕ) (st : State) (at written : ℕ) : Type 0 where

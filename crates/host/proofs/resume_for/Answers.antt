@@ -1,0 +1,9 @@
+-- The tests of the image, then of the samples; each way out is a law of Answers.
+use Rattle.host.proofs.Answers.{image-refused, odd-refused, good-resumed}
+use Rattle.host.proofs.resume_for.Goals as goal
+
+pub returns-then-samples-ne0 : goal.returns-then-samples-ne0
+returns-then-samples-ne0 c = odd-refused c.args.image.now c.args.samples.now c.in_ok-logger.logger c.in_ok-logger.ensures c.if-samples-ne0.true
+
+pub returns : goal.returns
+returns c = good-resumed c.args.image.now c.args.samples.now c.in_ok-logger.logger c.in_ok-logger.ensures c.if-samples-ne0.false
