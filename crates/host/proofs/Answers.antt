@@ -25,7 +25,7 @@ use Rattle.logger.specs.Calls.{logger_calls, spare_settings, resumed_to}
 use Rattle.logger.proofs.CallsLaws.{restore-accepted, restore-refused}
 use Rattle.day_count.specs.declared.DayCount.{DayCount}
 use Rattle.day_count.specs.Days.{day_counted}
-use Rattle.host.specs.Host.{block_refusal, reply_refusal, advance_refusal, try_refusal}
+use Rattle.host.specs.Host.{begun_to, begun_by, begun, block_refusal, reply_refusal, advance_refusal, try_refusal}
 use Rattle.host.specs.Host.{replied, advanced_to, advanced_by, advanced, block_tried_to, block_tried_by, block_tried}
 use Rattle.host.specs.Host.{CountedDay, day_replied, counted_to, counted_by, counted}
 
@@ -33,6 +33,18 @@ use Rattle.host.specs.Host.{CountedDay, day_replied, counted_to, counted_by, cou
 refused-by : {A : Type 0} (n : ℕ) (a : A) → 0 < n → refused n ≡ answered n a
 refused-by zero a some = absurd (omega arith)
 refused-by (suc n) a some = refl
+
+-- begin: a logger's image is saved, or start's refusal is told
+module _ (b lent : List ℕ) where
+  pub begun-saved : (st : State) (number : ℕ) (image : List ℕ) → saved_to number image ≡ logger_calls.save st lent → accepted st ≡ logger_calls.start b
+      → begun_to number image ≡ begun b lent
+  unfolding begun
+  begun-saved st number image saves starts =
+      ap (λ (r : Saved). begun_to r.number r.bytes) saves ∙ ap (λ (a : Answered State). begun_by a lent) starts
+
+  pub begun-refused : (n : ℕ) → refused n ≡ logger_calls.start b → begun_to n lent ≡ begun b lent
+  unfolding begun
+  begun-refused n starts = ap (λ (a : Answered State). begun_by a lent) starts
 
 -- what advance and try begin with, before the rest
 module _ (image samples : List ℕ) where
