@@ -1,5 +1,5 @@
--- 01, "The event program": the lines of records, in ASCII; and text that is put at a place of a buffer.
-use Rattle.std.specs.Prelude.{◌≡◌, List, [], ◌∷◌, ◌++◌, ℕ, zero, suc, ◌+◌, ◌*◌, ◌/◌, ◌%◌, length, take, drop, if◌then◌else◌}
+-- 01, "The event program": the lines of records, in ASCII.
+use Rattle.std.specs.Prelude.{List, [], ◌∷◌, ◌++◌, ℕ, zero, suc, ◌+◌, ◌*◌, ◌/◌, ◌%◌, take, drop, if◌then◌else◌}
 use Rattle.numbers.specs.Notation.{◌<ᵇ◌, ◌≡ᵇ◌}
 use Rattle.reading.specs.declared.Event.{Event}
 use Rattle.reading.specs.Layout.{record_length}
@@ -38,9 +38,3 @@ line_of e = kind_name e.kind ++ (column e.start ++ (column e.duration ++ (column
 abbrev pub lines_of : ℕ → List ℕ → List ℕ
 lines_of zero records = []
 lines_of (suc n) records = lines_of n records ++ line_of (event_of (take record_length (drop (record_length * n) records)))
-
--- bytes are put at a place of a text; the text before and behind them stays, and the place behind them is told
-pub record Put (text : List ℕ) (at : ℕ) (bytes : List ℕ) (behind : ℕ) (after : List ℕ) : Type 0 where
-  pub behind-is : behind ≡ at + length bytes
-  pub text-is : take behind after ≡ take at text ++ bytes
-  pub rest-is : drop behind after ≡ drop behind text

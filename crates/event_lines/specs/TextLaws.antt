@@ -1,16 +1,12 @@
--- The laws of the lines: 01's example, how long a column can be, the digits that `io` makes, text put behind text, and one line more.
-use Rattle.std.specs.Prelude.{◌≡◌, refl, Bool, true, false, List, [], ◌∷◌, ◌++◌, ℕ, zero, suc, ◌+◌, ◌-◌, ◌/◌, ◌%◌, ◌^◌, ◌≤◌, ◌<◌, length, take, drop, set, get_or, if◌then◌else◌}
-use Rattle.std.proofs.Common.{sym, ◌∙◌, ap, subst, append_assoc, append-nil, arith, pow-suc, length-append, take_all, take-suc, take-suc-set, drop-drop, drop-set-lt}
-use Rattle.std.proofs.Math.Path.{subst⁻¹}
-use Rattle.std.proofs.Math.Nat.{one-le-pow, pow-le-pow_right}
-use Rattle.std.proofs.Math.Decide.{dec_lt}
-use borrow.Author.Tests.{lt-ltb, le-ltb, eq-eqb, ne_eqb}
-use Rattle.io.specs.Digits.{last_digits, hex_digit_ascii, IsDigitCount}
-use Rattle.numbers.specs.Notation.{◌<ᵇ◌}
+-- The laws of the lines: 01's example, a column as std makes its digits, how long it can be, and one line more.
+use Rattle.std.specs.Prelude.{◌≡◌, refl, List, [], ◌∷◌, ◌++◌, ℕ, suc, ◌+◌, ◌-◌, ◌*◌, ◌^◌, ◌≤◌, ◌<◌, length, take, drop, decimal}
+use Rattle.std.proofs.Common.{sym, ◌∙◌, ap, append_assoc, arith, rules, length-append, length-drop, length-take-le, take_at, drop_at, drop-drop, take-add}
+use Rattle.std.proofs.lemmas.List.{drop-take}
+use Rattle.std.proofs.lemmas.Fmt.{AppendsLastDigit, decimal_from_appends, length-decimal-le}
 use Rattle.reading.specs.declared.Event.{Event}
+use Rattle.reading.specs.Layout.{record_length}
 use Rattle.reading.specs.Records.{event_of}
-use Rattle.records.specs.ListLaws.{record_at, record_is}
-use Rattle.event_lines.specs.Text.{decimal_to, column, dip, swell, interruption, rvc, kind_name, line_of, lines_of, Put}
+use Rattle.event_lines.specs.Text.{decimal_to, column, kind_name, line_of, lines_of}
 
 -- 01's line: dip 3 3 800 0
 example : line_of (record { kind = 1; start = 3; duration = 3; first = 800; second = 0 })
@@ -18,131 +14,60 @@ example : line_of (record { kind = 1; start = 3; duration = 3; first = 800; seco
 unfolding column kind_name
 example = refl
 
--- a column is 21 bytes long at most
-length-decimal : (k n : ℕ) → length (decimal_to k n) ≤ k
-length-decimal zero n = omega arith
-length-decimal (suc k) n = go (n <ᵇ 10) (length-decimal k (n / 10))
-  where
-    go : (b : Bool) → length (decimal_to k (n / 10)) ≤ k → length (if b then (48 + n) ∷ [] else decimal_to k (n / 10) ++ ((48 + n % 10) ∷ [])) ≤ suc k
-    go true ih = omega arith
-    go false ih = omega (arith, length-append (decimal_to k (n / 10)) ((48 + n % 10) ∷ []))
+-- std makes a number's digits, 20 at most
+digits_appended : AppendsLastDigit decimal_to
+digits_appended = search rules
 
-pub length-column : (n : ℕ) → length (column n) ≤ 21
+pub length-digits : (n : ℕ) → n < 2 ^ 64 → length (decimal n) ≤ 20
+length-digits n h = length-decimal-le 20 n (omega arith) (omega arith) h
+
+pub column-is : (n : ℕ) → n < 2 ^ 64 → 32 ∷ decimal n ≡ column n
 unfolding column
-length-column n = omega (arith, length-decimal 20 n)
+column-is n h = ap (λ (l : List ℕ). 32 ∷ l) (sym (decimal_from_appends decimal_to digits_appended 20 n h (length-digits n h)))
 
--- a digit in ASCII
-glyph-is : (d : ℕ) → d < 10 → hex_digit_ascii d ≡ 48 + d
-glyph-is d h = rw (lt-ltb d 10 h)
+-- a space and a number's digits, behind a text
+pub column-put : (t u d v : List ℕ) (n : ℕ) → n < 2 ^ 64 → u ≡ t ++ (32 ∷ []) → d ≡ decimal n → v ≡ u ++ d → v ≡ t ++ column n
+column-put t u d v n h space digits is =
+    is ∙ ap (λ (l : List ℕ). l ++ d) space ∙ append_assoc t (32 ∷ []) d ∙ ap (λ (l : List ℕ). t ++ (32 ∷ l)) digits ∙ ap (λ (l : List ℕ). t ++ l) (column-is n h)
 
--- `io` makes the fewest digits that hold a number, which are the number's; of 8 bytes 20 at most
-digits_decimal : (f k n : ℕ) → k ≤ f → IsDigitCount 10 1 n k → last_digits 10 k n ≡ decimal_to f n
-digits_decimal f zero n h few = absurd (omega arith)
-digits_decimal zero (suc k) n h few = absurd (omega arith)
-digits_decimal (suc f) (suc zero) n h few =
-    let below : n < 10 = omega arith in
-    let same : n % 10 ≡ n = omega arith in
-    (λ i. hex_digit_ascii (same i) ∷ []) ∙ ap (λ (d : ℕ). d ∷ []) (glyph-is n below) ∙ rw (lt-ltb n 10 below)
-digits_decimal (suc f) (suc (suc k)) n h few =
-    let least : 10 ^ suc k ≤ n = let e : suc (suc k) - 1 ≡ suc k = omega arith in subst (λ (j : ℕ). 10 ^ j ≤ n) e (few.2 (omega arith)) in
-    let ten : 10 ≤ n = omega (arith, pow-suc 10 k, one-le-pow k 10 (omega arith)) in
-    let fewer : 10 ^ k ≤ n / 10 = omega (arith, pow-suc 10 k, least) in
-    let e : k ≡ suc k - 1 = omega arith in
-    let later : IsDigitCount 10 1 (n / 10) (suc k) = (omega arith, omega (arith, pow-suc 10 (suc k)), λ more. subst (λ (j : ℕ). 10 ^ j ≤ n / 10) e fewer) in
-    ap (λ (l : List ℕ). l ++ (hex_digit_ascii (n % 10) ∷ [])) (digits_decimal f (suc k) (n / 10) (omega arith) later)
-    ∙ ap (λ (d : ℕ). decimal_to f (n / 10) ++ (d ∷ [])) (glyph-is (n % 10) (omega arith))
-    ∙ rw (le-ltb n 10 ten)
+-- records from one on, of the first `count`: the next of them, those behind it, and its line behind the lines of those before it
+module _ (records : List ℕ) (count n : ℕ) (room : record_length * count ≤ length records) (x after : List ℕ)
+    (are : take (record_length * (count - n)) (drop (record_length * n) records) ≡ x ++ after) (long : length x ≡ record_length) where
+  abbrev ys : List ℕ
+  ys = drop (record_length * n) records
 
-pub digits-most : (n k : ℕ) → n < 2 ^ 64 → IsDigitCount 10 1 n k → k ≤ 20
-digits-most n k h few = go (dec_lt 20 k)
-  where
-    go : Dec (20 < k) → k ≤ 20
-    go (yes more) =
-        let ten : 0 < 10 = omega arith in
-        let long : 20 ≤ k - 1 = omega arith in
-        let power : 10 ^ 20 ≤ 10 ^ (k - 1) = pow-le-pow_right ten long in
-        let least : 10 ^ (k - 1) ≤ n = few.2 (omega arith) in
-        absurd (omega arith)
-    go (no f) = omega (arith, f)
+  abbrev k : ℕ
+  k = record_length * (count - (n + 1))
 
--- what is the same from a place on is so from a later one on
-rest-later : (n k : ℕ) (t u : List ℕ) → drop n t ≡ drop n u → drop (n + k) t ≡ drop (n + k) u
-rest-later n k t u e = sym (drop-drop k n t) ∙ ap (λ (l : List ℕ). drop k l) e ∙ drop-drop k n u
+  whole : length (take (record_length * (count - n)) ys) ≡ record_length * (count - n)
+  whole = length-take-le (record_length * (count - n)) ys (omega (arith, length-drop (record_length * n) records))
 
--- text behind text
-pub put-put : (t₀ t₁ t₂ : List ℕ) (at b₁ b₂ : ℕ) (xs ys : List ℕ) → Put t₀ at xs b₁ t₁ → Put t₁ b₁ ys b₂ t₂ → Put t₀ at (xs ++ ys) b₂ t₂
-put-put t₀ t₁ t₂ at b₁ b₂ xs ys p q = record {
-  behind-is = omega (arith, p.behind-is, q.behind-is, length-append xs ys);
-  text-is = q.text-is ∙ ap (λ (t : List ℕ). t ++ ys) p.text-is ∙ append_assoc (take at t₀) xs ys;
-  rest-is = q.rest-is ∙ subst⁻¹ (λ (n : ℕ). drop n t₁ ≡ drop n t₀) q.behind-is (rest-later b₁ (length ys) t₁ t₀ p.rest-is);
-}
+  pub record-inside : n < count
+  record-inside = omega (arith, whole, ap length are, length-append x after)
 
--- no text
-pub put-nothing : (t : List ℕ) (at : ℕ) → Put t at [] at t
-put-nothing t at = record { behind-is = omega arith; text-is = sym (append-nil (take at t)); rest-is = refl }
+  parts : take (record_length + k) ys ≡ x ++ after
+  parts = let e : record_length + k ≡ record_length * (count - n) = omega (arith, record-inside) in ap (λ (m : ℕ). take m ys) e ∙ are
 
--- bytes put one by one: the first i of them stand at the place
-module _ (t₀ : List ℕ) (at : ℕ) (b : List ℕ) where
-  abbrev pub PutSoFar : ℕ → List ℕ → Type 0
-  PutSoFar i t = (take (at + i) t ≡ take at t₀ ++ take i b) × (drop (at + i) t ≡ drop (at + i) t₀)
+  pub record-is : x ≡ take record_length ys
+  record-is =
+      let fits : record_length ≤ length ys = omega (arith, record-inside, length-drop (record_length * n) records) in
+      sym (take_at x after record_length long)
+      ∙ ap (λ (l : List ℕ). take record_length l) (sym parts ∙ take-add record_length k ys)
+      ∙ take_at (take record_length ys) _ record_length (length-take-le record_length ys fits)
 
-  pub put-none : PutSoFar 0 t₀
-  put-none = let e : at + 0 ≡ at = omega arith in (ap (λ (n : ℕ). take n t₀) e ∙ sym (append-nil (take at t₀)), refl)
+  pub records-behind : after ≡ take k (drop (record_length * (n + 1)) records)
+  records-behind =
+      let e : record_length * n + record_length ≡ record_length * (n + 1) = omega arith in
+      sym (drop_at x after record_length long)
+      ∙ ap (λ (l : List ℕ). drop record_length l) (sym parts)
+      ∙ drop-take record_length k ys
+      ∙ ap (λ (l : List ℕ). take k l) (drop-drop record_length (record_length * n) records ∙ ap (λ (m : ℕ). drop m records) e)
 
-  pub put_one : (i : ℕ) (t : List ℕ) → at + i < length t → i < length b → PutSoFar i t → PutSoFar (i + 1) (set t (at + i) (get_or b i 0))
-  put_one i t h l e =
-      let x : ℕ = get_or b i 0 in
-      let n : at + (i + 1) ≡ suc (at + i) = omega arith in
-      let k : suc i ≡ i + 1 = omega arith in
-      let j : at + (i + 1) ≡ at + i + 1 = omega arith in (
-        ap (λ (m : ℕ). take m (set t (at + i) x)) n
-            ∙ take-suc-set t (at + i) x h
-            ∙ ap (λ (l : List ℕ). l ++ (x ∷ [])) e.0
-            ∙ append_assoc (take at t₀) (take i b) (x ∷ [])
-            ∙ ap (λ (l : List ℕ). take at t₀ ++ l) (sym (take-suc b i 0 l) ∙ ap (λ (m : ℕ). take m b) k),
-        drop-set-lt (at + (i + 1)) t (at + i) x (omega arith) ∙ subst⁻¹ (λ (m : ℕ). drop m t ≡ drop m t₀) j (rest-later (at + i) 1 t t₀ e.1),
-      )
-
-  pub put_all : (i : ℕ) (t : List ℕ) → i ≡ length b → PutSoFar i t → Put t₀ at b (at + i) t
-  put_all i t whole e = record {
-    behind-is = ap (λ (n : ℕ). at + n) whole;
-    text-is = e.0 ∙ ap (λ (l : List ℕ). take at t₀ ++ l) (take_all i b (omega arith));
-    rest-is = e.1;
-  }
-
--- the same text, said otherwise
-pub put_as : (t : List ℕ) (at : ℕ) (xs ys : List ℕ) (b : ℕ) (u : List ℕ) → xs ≡ ys → Put t at xs b u → Put t at ys b u
-put_as t at xs ys b u e p = subst (λ (l : List ℕ). Put t at l b u) e p
-
--- a name and a column, as they are put
-module _ (k : ℕ) where
-  pub name-dip : k ≡ 1 → dip ≡ kind_name k
-  unfolding kind_name
-  name-dip e = rw (eq-eqb k 1 e)
-
-  pub name-swell : (k ≡ 1 → ⊥) → k ≡ 2 → swell ≡ kind_name k
-  unfolding kind_name
-  name-swell f e = rw (ne_eqb k 1 f, eq-eqb k 2 e)
-
-  pub name-interruption : (k ≡ 1 → ⊥) → (k ≡ 2 → ⊥) → k ≡ 3 → interruption ≡ kind_name k
-  unfolding kind_name
-  name-interruption f g e = rw (ne_eqb k 1 f, ne_eqb k 2 g, eq-eqb k 3 e)
-
-  pub name-rvc : (k ≡ 1 → ⊥) → (k ≡ 2 → ⊥) → (k ≡ 3 → ⊥) → rvc ≡ kind_name k
-  unfolding kind_name
-  name-rvc f g h = rw (ne_eqb k 1 f, ne_eqb k 2 g, ne_eqb k 3 h)
-
-pub column-is : (n k : ℕ) (b : List ℕ) → n < 2 ^ 64 → IsDigitCount 10 1 n k → take k b ≡ last_digits 10 k n → 32 ∷ take k b ≡ column n
-unfolding column
-column-is n k b h few e = ap (λ (l : List ℕ). 32 ∷ l) (e ∙ digits_decimal 20 k n (digits-most n k h few) few)
-
--- a record's line behind those of the records before it
-pub lines_next : (records t₀ t u : List ℕ) (i at b : ℕ) (e : Event) → Put t₀ 0 (lines_of i records) at t → e ≡ event_of (record_at records i)
-    → Put t at (line_of e) b u → Put t₀ 0 (lines_of (i + 1) records) b u
-lines_next records t₀ t u i at b e before is p =
-    let k : suc i ≡ i + 1 = omega arith in
-    put_as _ _ _ _ _ _
-    (ap (λ (x : Event). lines_of i records ++ line_of x) is
-    ∙ ap (λ (l : List ℕ). lines_of i records ++ line_of (event_of l)) (record_is records i)
-    ∙ ap (λ (l : ℕ). lines_of l records) k)
-    (put-put t₀ t u 0 at b (lines_of i records) (line_of e) before p)
+  pub line-next : (t u v : List ℕ) (e : Event) → u ≡ t ++ lines_of n records → e ≡ event_of x → v ≡ u ++ line_of e → v ≡ t ++ lines_of (n + 1) records
+  line-next t u v e before is line =
+      let more : suc n ≡ n + 1 = omega arith in
+      line
+      ∙ ap (λ (l : List ℕ). l ++ line_of e) before
+      ∙ append_assoc t (lines_of n records) (line_of e)
+      ∙ ap (λ (d : Event). t ++ (lines_of n records ++ line_of d)) (is ∙ ap event_of record-is)
+      ∙ ap (λ (m : ℕ). t ++ lines_of m records) more

@@ -1,18 +1,23 @@
-// What event programs share: the text of records and of the last line, standard input and output, and what is told on standard error. There each line begins
-// with `name`: the program's name, a colon and a space, 32 bytes at most. No contract can say what is read or written.
+// What event programs share: the text of records and of the last line, standard input and output, and what is told on standard error. No contract can say what is
+// read or written.
 #![tactic(auto)]
 
-ghost use Rattle.std.specs.Prelude.{◌≡◌, ◌&&◌, ◌+◌, ◌*◌, ◌≤◌, length};
+ghost use Rattle.std.specs.Prelude.{◌≡◌, ◌&&◌, ◌++◌, ◌+◌, ◌*◌, ◌≤◌, length, IfSome};
+ghost use Rattle.arrayvec.specs.ArrayString.{array_string_len};
 ghost use Rattle.io.specs.Counts.{IsPrefixLen};
 ghost use Rattle.numbers.specs.Notation.{◌≡ᵇ◌};
+ghost use Rattle.settings.specs.Settings.{ValidSettings};
 ghost use Rattle.reading.specs.Layout.{record_length};
-ghost use Rattle.event_lines.specs.Begun.{BegunValid};
-ghost use Rattle.event_lines.specs.Text.{column, kind_name, line_of, lines_of, Put};
+ghost use Rattle.reading.specs.Told.{why_number};
+ghost use Rattle.event_lines.specs.Text.{column, kind_name, line_of, lines_of};
 
-use reading::Event;
+use arrayvec::ArrayString;
+use itoa::Buffer;
+use reading::{Event, Kind, PhaseKind, Stop};
 use records::RECORD_LENGTH;
-use settings::{Settings, SettingsRead};
-use std::io::{Cursor, Error, Write};
+use settings::Settings;
+use std::fmt::Write;
+use std::io::Error;
 use streams::Got;
 
 // The longest line: a kind of 12 letters, four columns of a space and at most 20 digits, and the line's end.
@@ -30,242 +35,211 @@ const REASON: usize = 96;
 // Room for a line that tells a failure: a message, a colon and a space, the reason and the line's end.
 const FAILURE: usize = MESSAGE + REASON + 3;
 
-// The phase, as look tells it, within a rapid voltage change.
-const CHANGING: u8 = 3;
-
-// What the samples leave: the number of values, the events that stand and the phase, as look tells them, and why no more are taken: 0 all are, 2 V is at its
-// end.
+// What the samples leave: the number of values, the events that stand and the phase, as look tells them, and why no more are taken.
 #[derive(Clone, Copy)]
 pub struct Ending {
     pub count: u64,
     pub dip: bool,
     pub swell: bool,
     pub interruption: bool,
-    pub phase: u8,
-    pub why: u32,
+    pub phase: PhaseKind,
+    pub why: Option<Stop>,
 }
 
-// What a program begins with: its settings; or nothing, where they are not read, or refused.
+// A program's standard input, output and error. A line on the last begins with the program's name, a colon and a space.
 #[derive(Clone, Copy)]
-pub enum Begun {
-    With(Settings),
-    Nothing,
+pub struct Console<'a> {
+    rt: HostRuntime,
+    name: &'a str,
+    ghost short: { length name.now ≤ 32 },
 }
 
-// Puts bytes at a place of a text; tells the place behind them.
-fn put(text: &mut [u8], at: usize, bytes: &[u8]) -> usize
-    requires { at + length bytes.now ≤ length text.old }
-    ensures { Put text.old at bytes.now result text.new }
+// A space and a number. Text is appended here, and in the lines made of it, by what cannot fail: `write!` promises its text only where it gives Ok, and `put_lines`
+// promises every line.
+fn put_column<const CAP: usize>(text: &mut ArrayString<CAP>, number: u64)
+    requires { array_string_len text.old + 21 ≤ CAP }
+    ensures text { text.new.bytes ≡ text.old.bytes ++ column number }
+    ensures upper_bound { array_string_len text.new ≤ array_string_len text.old + 21 }
 {
-    let mut i = 0;
-    while i < bytes.len() {
-        text[at + i] = bytes[i];
-        i += 1;
+    let mut digits = Buffer::new();
+    text.push(' ');
+    text.push_str(digits.format(number));
+}
+
+// The name of a kind, from its number in a record.
+#[tactic(auto, unfolding(crate::specs::Text::kind_name))]
+fn name_of(kind: u8) -> &'static str
+    ensures name { result.now ≡ kind_name kind }
+    ensures upper_bound { length result.now ≤ 12 }
+{
+    if kind == Kind::Dip.number() {
+        return "dip";
     }
-    at + i
-}
-
-// A space and a number.
-fn put_column(text: &mut [u8], at: usize, number: u64) -> usize
-    requires { at + 21 ≤ length text.old }
-    ensures put { Put text.old at (column number) result text.new }
-    ensures upper_bound { result ≤ at + 21 }
-{
-    let mut digits = [0u8; 20];
-    let count = io::decimal(number, &mut digits);
-    let behind = put(text, at, b" ");
-    put(text, behind, &digits[..count])
-}
-
-fn put_kind(text: &mut [u8], at: usize, kind: u8) -> usize
-    requires { at + 12 ≤ length text.old }
-    ensures put { Put text.old at (kind_name kind) result text.new }
-    ensures upper_bound { result ≤ at + 12 }
-{
-    if kind == Event::DIP {
-        return put(text, at, b"dip");
+    if kind == Kind::Swell.number() {
+        return "swell";
     }
-    if kind == Event::SWELL {
-        return put(text, at, b"swell");
+    if kind == Kind::Interruption.number() {
+        return "interruption";
     }
-    if kind == Event::INTERRUPTION {
-        return put(text, at, b"interruption");
-    }
-    put(text, at, b"rvc")
+    "rvc"
 }
 
-fn put_line(text: &mut [u8], at: usize, event: Event) -> usize
-    requires { at + 97 ≤ length text.old }
-    ensures put { Put text.old at (line_of event) result text.new }
-    ensures upper_bound { result ≤ at + 97 }
+fn put_line<const CAP: usize>(text: &mut ArrayString<CAP>, event: Event)
+    requires { array_string_len text.old + 97 ≤ CAP }
+    ensures text { text.new.bytes ≡ text.old.bytes ++ line_of event }
+    ensures upper_bound { array_string_len text.new ≤ array_string_len text.old + 97 }
 {
-    let kind = put_kind(text, at, event.kind);
-    let start = put_column(text, kind, event.start);
-    let duration = put_column(text, start, event.duration);
-    let first = put_column(text, duration, event.first);
-    let second = put_column(text, first, event.second);
-    put(text, second, b"\n")
+    text.push_str(name_of(event.kind));
+    put_column(text, event.start);
+    put_column(text, event.duration);
+    put_column(text, event.first);
+    put_column(text, event.second);
+    text.push('\n');
 }
 
-// The lines of the first records, from the text's start on; tells where they end.
-pub fn put_lines(text: &mut [u8], records: &[u8], count: usize) -> usize
-    requires { (record_length * count ≤ length records.now) × (97 * count ≤ length text.old) }
-    ensures put { Put text.old 0 (lines_of count records.now) result text.new }
-    ensures upper_bound { result ≤ length text.old }
+// Appends the lines of the first records.
+pub fn put_lines<const CAP: usize>(text: &mut ArrayString<CAP>, records: &[u8], count: usize)
+    requires { (record_length * count ≤ length records.now) × (array_string_len text.old + 97 * count ≤ CAP) }
+    ensures { text.new.bytes ≡ text.old.bytes ++ lines_of count records.now }
 {
-    let mut at = 0;
-    let mut i = 0;
-    while i < count {
-        let start = RECORD_LENGTH * i;
-        let end = start + RECORD_LENGTH;
-        let event = records::get_record(&records[start..end]);
-        at = put_line(text, at, event);
-        i += 1;
-    }
-    at
-}
-
-// Writes on standard error. There is nobody to tell a failure.
-fn say(rt: HostRuntime, text: &[u8]) {
-    let _ = streams::write_all(&mut rt.stderr(), text);
-}
-
-// How many bytes of a reason are the system's words: std puts the error's number behind them, in parentheses.
-fn count_words(reason: &[u8]) -> usize
-    ensures { result ≤ length reason.now }
-{
-    match reason.iter().rposition(|byte| *byte == b'(') {
-        Some(at) => at.saturating_sub(1),
-        None => reason.len(),
+    for record in records[..RECORD_LENGTH * count].chunks_exact(RECORD_LENGTH) {
+        put_line(text, records::get_record(record));
     }
 }
 
-// Puts the reason of a failure at a place of a text, as the system names it; tells the place behind it.
-fn put_reason(text: &mut [u8], at: usize, error: Error) -> usize
-    requires { at + 96 ≤ length text.old }
-    ensures length { length text.new ≡ length text.old }
-    ensures upper_bound { result ≤ at + 96 }
+// The system's words for a failure: std puts the error's number behind them, in parentheses.
+fn words(reason: &str) -> &str
+    ensures { length result.now ≤ length reason.now }
 {
-    let mut reason = Cursor::new([0u8; REASON]);
-    let _ = write!(reason, "{error}");
-    let told = (reason.position() as usize).min(REASON);
-    let bytes = reason.into_inner();
-    let count = count_words(&bytes[..told]);
-    put(text, at, &bytes[..count])
-}
-
-// Tells on standard error that a call failed on a stream, and why.
-fn fail(rt: HostRuntime, name: &[u8], stream: &[u8], error: Error)
-    requires { (length name.now ≤ 32) × (length stream.now ≤ 96) }
-{
-    let mut text = [0u8; FAILURE];
-    let behind = put(&mut text, 0, name);
-    let colon = put(&mut text, behind, stream);
-    let reason = put(&mut text, colon, b": ");
-    let line = put_reason(&mut text, reason, error);
-    let end = put(&mut text, line, b"\n");
-    say(rt, &text[..end]);
-}
-
-// Reads until the bytes are full or the input ends; a read that fails is told.
-pub fn read(rt: HostRuntime, name: &[u8], bytes: &mut [u8]) -> Got
-    requires { length name.now ≤ 32 }
-    ensures { IsPrefixLen result.count bytes.new }
-{
-    let got = streams::read_full(&mut rt.stdin(), bytes);
-    if let Some(error) = got.failed {
-        fail(rt, name, b"standard input", error);
+    match reason.rsplit_once(" (") {
+        Some((told, _)) => told,
+        None => reason,
     }
-    got
 }
 
 // Whether there may be more behind a chunk: not where something failed, nor behind a short one, nor at V's end.
-pub fn goes_on(good: bool, got: usize, whole: usize, why: u32) -> bool
-    ensures { result ≡ (good && got ≡ᵇ whole && why ≡ᵇ 0) }
+pub fn goes_on(good: bool, got: usize, whole: usize, why: Option<Stop>) -> bool
+    ensures { result ≡ (good && got ≡ᵇ whole && why_number why ≡ᵇ 0) }
 {
-    good & (got == whole) & (why == 0)
+    good && got == whole && why.is_none()
 }
 
-// Prints, unless something was lost before, and tells whether nothing is; a write that fails is told.
-pub fn print(rt: HostRuntime, name: &[u8], printed: bool, text: &[u8]) -> bool
-    requires { length name.now ≤ 32 }
-    ensures { result ≡ (printed && result) }
-{
-    if !printed {
-        return false;
+impl<'a> Console<'a> {
+    pub fn new(rt: HostRuntime, name: &'a str) -> Console<'a>
+        requires { length name.now ≤ 32 }
+    {
+        Console { rt, name }
     }
-    match streams::write_all(&mut rt.stdout(), text) {
-        Ok(()) => true,
-        Err(error) => {
-            fail(rt, name, b"standard output", error);
-            false
+
+    // Writes on standard error. There is nobody to tell a failure.
+    fn say(self, text: &str) {
+        let _ = streams::write_all(&mut self.rt.stderr(), text.as_bytes());
+    }
+
+    // Tells a line on standard error.
+    fn tell(self, line: &str)
+        requires { length line.now ≤ 96 }
+    {
+        let mut text = ArrayString::<MESSAGE>::new();
+        text.push_str(self.name);
+        text.push_str(line);
+        self.say(text.as_str());
+    }
+
+    // Tells on standard error that a call failed on a stream, and why, in the system's words.
+    fn fail(self, stream: &str, error: Error)
+        requires { length stream.now ≤ 96 }
+    {
+        let mut reason = ArrayString::<REASON>::new();
+        let _ = write!(reason, "{error}");
+        let mut text = ArrayString::<FAILURE>::new();
+        text.push_str(self.name);
+        text.push_str(stream);
+        text.push_str(": ");
+        text.push_str(words(reason.as_str()));
+        text.push('\n');
+        self.say(text.as_str());
+    }
+
+    // Reads until the bytes are full or the input ends; a read that fails is told.
+    pub fn read(self, bytes: &mut [u8]) -> Got
+        ensures { IsPrefixLen result.count bytes.new }
+    {
+        let got = streams::read_full(&mut self.rt.stdin(), bytes);
+        if let Some(error) = got.failed {
+            self.fail("standard input", error);
+        }
+        got
+    }
+
+    // Prints, unless something was lost before, and tells whether nothing is; a write that fails is told.
+    pub fn print(self, printed: bool, text: &str) -> bool
+        ensures { result ≡ (printed && result) }
+    {
+        if !printed {
+            return false;
+        }
+        match streams::write_all(&mut self.rt.stdout(), text.as_bytes()) {
+            Ok(()) => true,
+            Err(error) => {
+                self.fail("standard output", error);
+                false
+            }
         }
     }
-}
 
-pub fn print_heading(rt: HostRuntime, name: &[u8]) -> bool
-    requires { length name.now ≤ 32 }
-{
-    print(rt, name, true, b"kind start halves first second\n")
-}
-
-// Prints a line of a word of 7 letters at most and a number.
-fn print_line(rt: HostRuntime, name: &[u8], word: &[u8], number: u64) -> bool
-    requires { (length name.now ≤ 32) × (length word.now ≤ 7) }
-{
-    let mut text = [0u8; WORD_LINE];
-    let space = put(&mut text, 0, word);
-    let behind = put_column(&mut text, space, number);
-    let end = put(&mut text, behind, b"\n");
-    print(rt, name, true, &text[..end])
-}
-
-// Reads the settings. The number of refused ones is printed, and a read that fails is told.
-pub fn begin(rt: HostRuntime, name: &[u8]) -> Begun
-    requires { length name.now ≤ 32 }
-    ensures { BegunValid result }
-{
-    let mut bytes = [0u8; Settings::LENGTH];
-    let got = read(rt, name, &mut bytes);
-    if got.failed.is_some() {
-        return Begun::Nothing;
+    pub fn print_heading(self) -> bool {
+        self.print(true, "kind start halves first second\n")
     }
-    let count = got.count;
-    match Settings::from_bytes(&bytes[..count]) {
-        SettingsRead::Read(settings) => Begun::With(settings),
-        SettingsRead::Refused(number) => {
-            print_line(rt, name, b"refused", number as u64);
-            Begun::Nothing
+
+    // Prints a line of a word of 7 letters at most and a number.
+    fn print_line(self, word: &str, number: u64) -> bool
+        requires { length word.now ≤ 7 }
+    {
+        let mut text = ArrayString::<WORD_LINE>::new();
+        text.push_str(word);
+        put_column(&mut text, number);
+        text.push('\n');
+        self.print(true, text.as_str())
+    }
+
+    // Reads the settings; or none, where they are not read, or refused. The number of refused ones is printed, and a read that fails is told.
+    pub fn begin(self) -> Option<Settings>
+        ensures { IfSome result ValidSettings }
+    {
+        let mut bytes = [0u8; Settings::LENGTH];
+        let got = self.read(&mut bytes);
+        if got.failed.is_some() {
+            return None;
+        }
+        match Settings::from_bytes(&bytes[..got.count]) {
+            Ok(settings) => Some(settings),
+            Err(refusal) => {
+                self.print_line("refused", u64::from(refusal.number()));
+                None
+            }
         }
     }
-}
 
-// Tells a line on standard error, where what it says is so.
-fn tell(rt: HostRuntime, name: &[u8], so: bool, line: &[u8])
-    requires { (length name.now ≤ 32) × (length line.now ≤ 96) }
-{
-    if so {
-        let mut text = [0u8; MESSAGE];
-        let behind = put(&mut text, 0, name);
-        let end = put(&mut text, behind, line);
-        say(rt, &text[..end]);
+    // Tells of an event that stands: it has no record, since it has not ended.
+    fn tell_standing(self, stands: bool, line: &str)
+        requires { length line.now ≤ 96 }
+    {
+        if stands {
+            self.tell(line);
+        }
     }
-}
 
-// Prints the number of values; tells of what has no record, since it has not ended, and of V's end, where samples are left.
-pub fn finish(rt: HostRuntime, name: &[u8], ending: Ending)
-    requires { length name.now ≤ 32 }
-{
-    if print_line(rt, name, b"values", ending.count) {
-        tell(rt, name, ending.dip, b"not ended: dip\n");
-        tell(rt, name, ending.swell, b"not ended: swell\n");
-        tell(rt, name, ending.interruption, b"not ended: interruption\n");
-        tell(rt, name, ending.phase == CHANGING, b"not ended: rvc\n");
-        tell(
-            rt,
-            name,
-            ending.why == 2,
-            b"the number of values is at its end: further samples are not taken\n",
-        );
+    // Prints the number of values; tells of what has no record, and of V's end, where samples are left.
+    pub fn finish(self, ending: Ending) {
+        if self.print_line("values", ending.count) {
+            self.tell_standing(ending.dip, "not ended: dip\n");
+            self.tell_standing(ending.swell, "not ended: swell\n");
+            self.tell_standing(ending.interruption, "not ended: interruption\n");
+            self.tell_standing(ending.phase == PhaseKind::Changing, "not ended: rvc\n");
+            if ending.why == Some(Stop::End) {
+                self.tell("the number of values is at its end: further samples are not taken\n");
+            }
+        }
     }
 }

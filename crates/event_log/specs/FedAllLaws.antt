@@ -1,18 +1,18 @@
 -- A feed of the logger is a turn of `fed_all_by`; and chunks come to an end, for what is left to V's end falls with each sample that is taken.
-use Rattle.std.specs.Prelude.{◌≡◌, refl, Bool, true, false, ◌&&◌, List, [], ◌∷◌, ℕ, ◌+◌, ◌-◌, ◌<◌, length, take, drop, ℤ, if◌then◌else◌}
-use Rattle.std.proofs.Common.{◌∙◌, ap, arith}
-use Rattle.numbers.specs.Notation.{◌<ᵇ◌, ◌≡ᵇ◌}
+use Rattle.std.specs.Prelude.{◌≡◌, refl, Bool, true, false, List, [], ◌∷◌, ℕ, ◌+◌, ◌-◌, ◌<◌, length, take, drop, ℤ, if◌then◌else◌}
+use Rattle.std.proofs.Common.{sym, ◌∙◌, ap, arith, take_all}
+use Rattle.std.proofs.Math.Path.{subst}
+use Rattle.std.proofs.Math.Bridge.{le_prop}
+use Rattle.std.proofs.Math.Logic.{∥∥₁_elim}
+use Rattle.numbers.specs.Notation.{◌<ᵇ◌}
 use Rattle.reading.specs.Told.{Told}
 use Rattle.reading.specs.Feed.{last_value}
-use Rattle.samples.specs.Samples.{samples_of}
-use Rattle.samples.specs.SamplesLaws.{length-samples}
 use Rattle.rms.specs.declared.Gatherer.{Gatherer}
 use Rattle.rms.specs.declared.Part.{Part}
 use Rattle.rms.specs.Gather.{part_of, with_half, value_with, value_from}
 use Rattle.detection.specs.Detection.{detector_after}
 use Rattle.greedy.proofs.CutterLaws.{sample-leaves}
-use Rattle.greedy.proofs.ProgressLaws.{lent-behind}
-use Rattle.greedy.proofs.AllFedLaws.{Turn, turn, left_while, chunk-falls, left_to, InHalf, left-part, left-first, left-value}
+use Rattle.greedy.proofs.AllFedLaws.{Turn, turn, falls as samples-fall, left_to, InHalf, left-part, left-first, left-value}
 use Rattle.state.specs.declared.State.{State}
 use Rattle.state.specs.State.{ValidState}
 use Rattle.state.specs.Step.{with_values, with_gatherer, passes_end, half_joined, cutter, machine}
@@ -20,14 +20,7 @@ use Rattle.state.specs.Calls.{fed_with}
 use Rattle.state.proofs.CallsLaws.{fed_with-within}
 use Rattle.logger.specs.declared.Logger.{Logger}
 use Rattle.logger.specs.Logger.{fed_to}
-use Rattle.event_log.specs.declared.FedAll.{FedAll}
-use Rattle.event_log.specs.FedAll.{fed_all_from}
-
--- a feed of the samples from a place on
-pub fed-turn : (xs : List ℤ) (at : ℕ) (lent : List ℕ) (st : State) {end : State} {told : Told} {out : List ℕ}
-    → fed_to end told out ≡ fed_with st (take (length xs - at) (drop at xs)) lent → Turn machine xs at lent st end told
-unfolding fed_with
-fed-turn xs at lent st fed = turn machine xs at lent st (fed_with-within st (drop at xs) lent) (fed ∙ ap (λ (b : List ℤ). fed_with st b lent) (lent-behind at xs))
+use Rattle.event_log.specs.FedAll.{FedAll}
 
 -- the samples left to V's end
 abbrev pub left : State → ℕ
@@ -61,9 +54,18 @@ left-next st x inside = sample-leaves cutter st x Less (left-part m v g inside x
     half true w below = left-value m v g inside p below
     half false w below = left-first m v g inside p w
 
-pub bytes-fall : (l : Logger) (bytes : List ℕ) (good : Bool) (got : ℕ) (t : FedAll) (more : Bool) → ValidState l.state → length bytes ≡ got
-    → t ≡ fed_all_from l (samples_of bytes) → more ≡ (good && got ≡ᵇ 8192 && t.why ≡ᵇ 0) → left_while left more t.logger.state < left_while left true l.state
-bytes-fall l bytes good got t more valid long is more-is =
-    chunk-falls machine left Inside left-next (samples_of bytes) l.state t.logger.state t.why 8192 got good more
-    (valid.settings-valid.samples-valid.1, valid.gatherer-valid.0) (λ i. record { after = (is i).logger.state; why = (is i).why })
-    (λ whole. omega (arith, length-samples bytes)) more-is
+-- a feed of the logger is a turn
+pub fed-turn : (xs : List ℤ) (lent : List ℕ) (st : State) {end : State} {told : Told} {out : List ℕ} → fed_to end told out ≡ fed_with st xs lent
+    → Turn machine xs lent st end told
+unfolding fed_with
+fed-turn xs lent st fed = turn machine xs lent st (fed_with-within st xs lent) fed
+
+-- all samples can be fed
+pub part-leaves : (l m : Logger) (xs : List ℤ) (why : ℕ) → FedAll l (take (length xs) xs) m why → FedAll l xs m why
+part-leaves l m xs why = subst (λ (ys : List ℤ). FedAll l ys m why) (take_all (length xs) xs (omega arith))
+
+-- samples that are all taken lower what is left
+pub falls : (l m : Logger) (xs : List ℤ) → 0 < length xs → FedAll l xs m 0 → left m.state < left l.state
+falls l m xs some all =
+    ∥∥₁_elim l.valid le_prop
+    (λ (valid : ValidState l.state). samples-fall machine left Inside left-next xs l.state m.state (valid.settings-valid.samples-valid.1, valid.gatherer-valid.0) some all)

@@ -1,9 +1,8 @@
--- A space is put, then the digits that `io` makes.
-use Rattle.event_lines.specs.TextLaws.{put-put, put_as, column-is}
+-- A space is put, then the digits that std makes.
+use Rattle.std.proofs.Common.{arith}
+use Rattle.event_lines.specs.TextLaws.{column-put}
 use Rattle.event_lines.proofs.put_column.Goals as goal
 
-pub returns-clause-put : goal.returns-clause-put
-returns-clause-put c =
-    let made = c.decimal-count in
-    put_as _ _ _ _ _ _ (column-is c.args.number made.result made.new.out c.ranges.number.fits made.ensures.len made.ensures.digits)
-    (put-put _ _ _ _ _ _ _ _ c.put-behind.ensures c.put.ensures)
+pub returns-clause-text : goal.returns-clause-text
+returns-clause-text g c =
+    column-put _ _ _ _ c.args.number c.ranges.number.fits (c.push.ensures.ascii (omega arith)) c.format.ensures.text c.push_str.ensures.bytes

@@ -1,2 +1,0 @@
-pub mod ThreeFedAll
-pub mod ThreeFedAllLaws
