@@ -1,0 +1,2 @@
+pub mod ThreeFedAll
+pub mod ThreeFedAllLaws
