@@ -100,7 +100,7 @@ pub part-leaves : (l m : ThreeLogger) (xs : List ℤ) (why : ℕ) → ThreeFedAl
 part-leaves l m xs why leaves =
     leaves
     ∙ ap (λ (ts : List (Three ℤ)). fed_all_by three_machine l.state ts)
-      (triples-take (length xs / 3) xs ∙ take_all (length xs / 3) (triples_of xs) (omega (arith, length-triples xs)))
+    (triples-take (length xs / 3) xs ∙ take_all (length xs / 3) (triples_of xs) (omega (arith, length-triples xs)))
 
 -- the triples left to V's end
 abbrev pub left : ThreeState → ℕ
@@ -139,5 +139,5 @@ pub falls : (l m : ThreeLogger) (xs : List ℤ) → 0 < 3 * (length xs / 3) → 
 falls l m xs some all =
     ∥∥₁_elim l.valid le_prop
     (λ (valid : ValidThree l.state).
-      samples-fall three_machine left Inside left-next (triples_of xs) l.state m.state (valid.settings-valid.samples-valid.1, (valid.gatherer-valid on_a).0)
-      (omega (arith, some, length-triples xs)) all)
+    samples-fall three_machine left Inside left-next (triples_of xs) l.state m.state (valid.settings-valid.samples-valid.1, (valid.gatherer-valid on_a).0)
+    (omega (arith, some, length-triples xs)) all)
