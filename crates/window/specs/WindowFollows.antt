@@ -1,5 +1,6 @@
 -- The window follows the history, and the sum and the calm of a window are those of the history that left it.
-use Rattle.std.specs.Prelude.{◌≡◌, ℕ, zero, suc, ◌-◌, ◌*◌, ◌<◌, ◌≤◌, min, Bool, true, false, ◌&&◌, List, [], ◌∷◌, ◌++◌, reverse, length, take, drop, replicate, slice_index, slice_set, refl, if◌then◌else◌}
+use Rattle.std.specs.Prelude.{◌≡◌, ℕ, zero, suc, ◌-◌, ◌*◌, ◌<◌, ◌≤◌, min, Bool, true, false, ◌&&◌, List, [], ◌∷◌, ◌++◌, reverse, length, take, drop}
+use Rattle.std.specs.Prelude.{replicate, slice_index, slice_set, refl, if◌then◌else◌}
 use Rattle.std.proofs.Common.{sym, ◌∙◌, ap, arith, length-take, take_all, take-suc, take_at, drop_at, ltb-true, ltb-false}
 use Rattle.std.proofs.Math.Bool.{and-true, and_comm}
 use mathlib.Core.List.{reverse-cons, append_assoc, reverse-append}

@@ -1,6 +1,8 @@
 -- What refusal 11 allows of a window is kept by the step, and so holds of what a history leaves; and the sum of such a window, from value to value.
-use Rattle.std.specs.Prelude.{◌≡◌, ℕ, zero, suc, ◌+◌, ◌-◌, ◌*◌, ◌<◌, ◌≤◌, min, Bool, true, false, List, [], ◌∷◌, ◌++◌, length, take, drop, replicate, slice_index, slice_index_or, slice_set, refl, if◌then◌else◌}
-use Rattle.std.proofs.Common.{sym, ◌∙◌, ap, subst, arith, take-append-drop, length-append, length-drop, length-set, get_or-set_other, get_or-append-add, get_or-drop, length-take-le, ltb-true, ltb-false}
+use Rattle.std.specs.Prelude.{◌≡◌, ℕ, zero, suc, ◌+◌, ◌-◌, ◌*◌, ◌<◌, ◌≤◌, min, Bool, true, false, List, [], ◌∷◌, ◌++◌, length, take, drop, replicate}
+use Rattle.std.specs.Prelude.{slice_index, slice_index_or, slice_set, refl, if◌then◌else◌}
+use Rattle.std.proofs.Common.{sym, ◌∙◌, ap, subst, arith, take-append-drop, length-append, length-drop, length-set, get_or-set_other}
+use Rattle.std.proofs.Common.{get_or-append-add, get_or-drop, length-take-le, ltb-true, ltb-false}
 use Rattle.std.proofs.lemmas.List.{length-replicate}
 use Rattle.numbers.specs.Notation.{◌<ᵇ◌}
 use Rattle.reading.specs.Changes.{sum}
