@@ -17,7 +17,8 @@ use settings::{Scaled, Settings, Threshold};
 use threshold::Standing;
 use window::Sums;
 
-// What is kept of the values beside the window: their count, the events that stand, and the phase.
+// What is kept of the values beside the window: their count, the events that stand, and the phase. The events are fields and no array, as each has a kind and levels
+// of its own, and `detector_of` and `readings_of` name it.
 #[derive(Clone, Copy)]
 pub struct Detector {
     pub count: u64,
@@ -88,7 +89,8 @@ fn leaving(count: u64, window_length: u64, oldest: u64) -> u64
     if count < window_length { 0 } else { oldest }
 }
 
-// A value that joins a window after `count` others, worked out from the window before it, its marks and its sums.
+// A value that joins a window after `count` others, worked out from the window before it, its marks and its sums. The three come apart, here and below: the caller
+// writes the first two in place, so a struct of them would be made anew for each value.
 pub fn join_window(
     window_length: u64,
     count: u64,
@@ -154,7 +156,8 @@ impl Detector {
         phase.step(scaled, window_length, &window[first..end], joining)
     }
 
-    // One more value, worked out from the window before it, so that nothing has to be undone where its records do not fit.
+    // One more value, worked out from the window before it, so that nothing has to be undone where its records do not fit. `scaled` is that of the settings, which
+    // alone a state keeps: the caller works it out once for many values.
     pub fn try_value(
         self,
         settings: Settings,

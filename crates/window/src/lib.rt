@@ -8,7 +8,7 @@ ghost use Rattle.window.specs.Window.{pushed};
 ghost use Rattle.window.specs.Range.{between, calm_with};
 ghost use Rattle.window.specs.Places.{same_numbers};
 
-// What a window keeps: a value or a clipping mark.
+// What a window keeps: a value or a clipping mark. `numbers` are those of a list of them.
 pub trait Place: Copy {
     ghost number: { Self → ℕ };
 
@@ -44,7 +44,8 @@ impl Place for u8 {
     }
 }
 
-// The value after `count` others joins the window, which keeps `window_length` of them.
+// The value after `count` others joins the window, which keeps `window_length` of them. Here and below the length stands beside the window, and no struct holds
+// both: it is the settings', one for a window, its marks and the windows of three channels.
 pub fn push<T: Copy>(window: &mut [T], window_length: usize, count: usize, value: T)
     requires { (0 < window_length) × (window_length ≤ length window.old) }
     ensures { window.new ≡ pushed window_length count window.old value }
