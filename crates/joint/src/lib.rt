@@ -32,7 +32,7 @@ pub struct Own {
     pub signal: Signal,
 }
 
-// The joint events that stand.
+// The joint events that stand. They are fields and no array, as each has a kind and levels of its own, and `joint_of` names it.
 #[derive(Clone, Copy)]
 pub struct Standings {
     pub dip: Standing,
@@ -344,8 +344,9 @@ impl Joint {
         }
     }
 
-    // One more value of each channel, worked out from the windows before it, so that nothing has to be undone where its records do not fit. `scaled` comes beside
-    // the settings that it follows from, since it is worked out once for a block.
+    // One more value of each channel, worked out from the windows before it, so that nothing has to be undone where its records do not fit. `scaled` is that of the
+    // settings, which alone a state keeps: the caller works it out once for a block. The windows, their marks and their sums come apart, here and above: the caller
+    // writes the first two in place, and a state keeps no sums.
     pub fn try_values(
         self,
         settings: Settings,
