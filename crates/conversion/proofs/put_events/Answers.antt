@@ -11,14 +11,14 @@ use Rattle.conversion.proofs.put_events.Goals as goal
 pub get_row-requires : goal.get_row-requires
 get_row-requires c =
     let are = c.events_widths-widths.ensures in
-    (sym (ap length are), c.requires.2 ∙ sym (ap total are), subst Narrow (sym are) (narrow-events c.args.from c.requires.0))
+    (sym (ap length are), c.requires.0 ∙ sym (ap total are), subst Narrow (sym are) (narrow-events c.args.from.width c.args.from.narrow))
 
 pub put_row-requires : goal.put_row-requires
 put_row-requires c =
     let are = c.events_widths-others.ensures in
     let widths = c.events_widths-widths.ensures in
     let got = c.get_row.ensures in
-    (ap length got ∙ (length-numbers_in c.events_widths-widths.result c.args.events.now ∙ (ap length widths ∙ sym (ap length are))), c.requires.3 ∙ sym (ap total are))
+    (ap length got ∙ (length-numbers_in c.events_widths-widths.result c.args.events.now ∙ (ap length widths ∙ sym (ap length are))), c.requires.1 ∙ sym (ap total are))
 
 pub returns : goal.returns
 returns c =

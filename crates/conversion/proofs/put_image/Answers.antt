@@ -52,24 +52,22 @@ module _ (from to : ℕ) (b p : List ℕ) (size : length b ≡ image_length_with
 pub put_events-requires : goal.put_events-requires
 put_events-requires c =
     let out = c.args.output.now in
-    let values = 100 + c.args.to + 600 in
+    let values = 100 + c.args.to.width + 600 in
     let one = put_mid 0 32 out c.put_table.new.part in
-    let two = put_mid 32 68 one c.copy.new.part in
+    let two = put_mid 32 68 one c.copy_from_slice.new.part in
     let first = same_len_mid 0 32 out c.put_table.new.part c.put_table.auto.part in
-    let second = same_len_mid 32 68 one c.copy.new.part c.copy.auto.part in
+    let second = same_len_mid 32 68 one c.copy_from_slice.new.part c.copy_from_slice.auto.part in
     let third = same_len_mid 100 (values - 100) two c.put_values.new.part c.put_values.auto.part in (
-      c.requires.0,
-      c.requires.1,
-      simp (length-take, length-drop) (omega (arith, c.requires.2)),
-      mid_len values (values + 5 * c.args.to + 40) _ (omega (arith, third ∙ (second ∙ first), c.requires.3)) ∙ omega arith,
+      simp (length-take, length-drop) (omega (arith, c.requires.0)),
+      mid_len values (values + 5 * c.args.to.width + 40) _ (omega (arith, third ∙ (second ∙ first), c.requires.1)) ∙ omega arith,
     )
 
 pub returns : goal.returns
 returns c =
     let a = c.args in
-    let at = 100 + a.from + 600 in
-    let other = 100 + a.to + 600 in
-    image-put a.from a.to a.image.now a.output.now c.requires.2 c.requires.3
-    (other - 100) (other + 5 * a.to + 40 - other) (at - 100) (at + 5 * a.from + 40 - at) at other _ _ _ _
+    let at = 100 + a.from.width + 600 in
+    let other = 100 + a.to.width + 600 in
+    image-put a.from.width a.to.width a.image.now a.output.now c.requires.0 c.requires.1
+    (other - 100) (other + 5 * a.to.width + 40 - other) (at - 100) (at + 5 * a.from.width + 40 - at) at other _ _ _ _
     (omega arith) (omega arith) (omega arith) (omega arith) (omega arith) (omega arith)
-    c.put_table.ensures c.copy.ensures c.put_values.ensures c.put_events.ensures
+    c.put_table.ensures c.copy_from_slice.ensures.after c.put_values.ensures c.put_events.ensures

@@ -37,9 +37,9 @@ module _ (values : List ℕ) (from : ℕ) (size : length values ≡ total (value
 pub returns : goal.returns
 returns c =
     let a = c.args in
-    values-put a.values.now a.from c.requires.2 (bytes-by a.values.now (λ i. omega (arith, c.type_inv.values i)))
-    a.to (a.to - 0) (a.to + 600 - a.to) (a.from - 0) (a.from + 600 - a.from) a.part.now _ _ c.requires.3
+    values-put a.values.now a.from.width c.requires.0 (bytes-by a.values.now (λ i. omega (arith, c.type_inv.values i)))
+    a.to.width (a.to.width - 0) (a.to.width + 600 - a.to.width) (a.from.width - 0) (a.from.width + 600 - a.from.width) a.part.now _ _ c.requires.1
     (omega arith) (omega arith) (omega arith) (omega arith)
-    (bytes_of-part 0 (a.to - 0) c.number.result a.part.now _ (omega arith) c.put_number.ensures
-    ∙ ap (bytes_of (a.to - 0)) c.number.ensures)
-    c.copy.ensures
+    (bytes_of-part 0 (a.to.width - 0) c.number.result a.part.now _ (omega arith) c.put_number.ensures
+    ∙ ap (bytes_of (a.to.width - 0)) c.number.ensures)
+    c.copy_from_slice.ensures.after

@@ -8,14 +8,14 @@ pub returns-then-list-length-ne0 : goal.returns-then-list-length-ne0
 returns-then-list-length-ne0 c =
     let a = c.args in
     let sized = c.record_length-length in
-    not-whole a.from a.to sized.result _ a.list.now a.output.now sized.ensures.0 refl c.if-list-length-ne0.true
+    not-whole a.from.width a.to.width sized.result _ a.list.now a.output.now sized.ensures.0 refl c.if-list-length-ne0.true
 
 pub returns-then-not-good : goal.returns-then-not-good
 returns-then-not-good c =
     let a = c.args in
     let sized = c.record_length-length in
     let tested = c.test_records-tested in
-    not_good a.from a.to sized.result _ a.list.now a.output.now sized.ensures.0 refl c.if-list-length-ne0.false
+    not_good a.from.width a.to.width sized.result _ a.list.now a.output.now sized.ensures.0 refl c.if-list-length-ne0.false
     (sym tested.ensures.0 ∙ c.if-not-good.true)
 
 pub returns-then-not-fit : goal.returns-then-not-fit
@@ -23,7 +23,7 @@ returns-then-not-fit c =
     let a = c.args in
     let sized = c.record_length-length in
     let tested = c.test_records-tested in
-    not-fit a.from a.to sized.result _ a.list.now a.output.now sized.ensures.0 refl c.if-list-length-ne0.false
+    not-fit a.from.width a.to.width sized.result _ a.list.now a.output.now sized.ensures.0 refl c.if-list-length-ne0.false
     (sym tested.ensures.0 ∙ c.if-not-good.false)
     (sym tested.ensures.1 ∙ c.if-not-fit.true)
 
@@ -33,7 +33,7 @@ returns-then-output-record_length c =
     let sized = c.record_length-length in
     let tested = c.test_records-tested in
     let other-sized = c.record_length in
-    no_room a.from a.to sized.result other-sized.result a.list.now a.output.now sized.ensures.0 other-sized.ensures.0
+    no_room a.from.width a.to.width sized.result other-sized.result a.list.now a.output.now sized.ensures.0 other-sized.ensures.0
     c.if-list-length-ne0.false
     (sym tested.ensures.0 ∙ c.if-not-good.false)
     (sym tested.ensures.1 ∙ c.if-not-fit.false)
@@ -44,8 +44,8 @@ put_records-requires c =
     let a = c.args in
     let sized = c.record_length-length in
     let other-sized = c.record_length in
-    let room = has_room a.from a.to sized.result other-sized.result a.list.now a.output.now sized.ensures.0 other-sized.ensures.0 in
-    (c.requires.0, c.requires.1, room c.if-output-record_length.false)
+    let room = has_room a.from.width a.to.width sized.result other-sized.result a.list.now a.output.now sized.ensures.0 other-sized.ensures.0 in
+    room c.if-output-record_length.false
 
 pub returns : goal.returns
 returns c =
@@ -54,7 +54,7 @@ returns c =
     let tested = c.test_records-tested in
     let other-sized = c.record_length in
     ap (converted_to 0) c.put_records.ensures
-    ∙ all-converted a.from a.to sized.result other-sized.result a.list.now a.output.now sized.ensures.0 other-sized.ensures.0
+    ∙ all-converted a.from.width a.to.width sized.result other-sized.result a.list.now a.output.now sized.ensures.0 other-sized.ensures.0
     c.if-list-length-ne0.false
     (sym tested.ensures.0 ∙ c.if-not-good.false)
     (sym tested.ensures.1 ∙ c.if-not-fit.false)
