@@ -54,9 +54,9 @@ put_events-requires c =
     let out = c.args.output.now in
     let values = 100 + c.args.to.width + 600 in
     let one = put_mid 0 32 out c.put_table.new.part in
-    let two = put_mid 32 68 one c.copy_from_slice.new.part in
+    let two = put_mid 32 68 one c.copy_from_slice.new.self in
     let first = same_len_mid 0 32 out c.put_table.new.part c.put_table.auto.part in
-    let second = same_len_mid 32 68 one c.copy_from_slice.new.part c.copy_from_slice.auto.part in
+    let second = same_len_mid 32 68 one c.copy_from_slice.new.self c.copy_from_slice.auto.self in
     let third = same_len_mid 100 (values - 100) two c.put_values.new.part c.put_values.auto.part in (
       simp (length-take, length-drop) (omega (arith, c.requires.0)),
       mid_len values (values + 5 * c.args.to.width + 40) _ (omega (arith, third ∙ (second ∙ first), c.requires.1)) ∙ omega arith,

@@ -9,10 +9,10 @@ use Rattle.conversion.proofs.put_records.Given as goal
 
 abbrev pub invariant-loop-rest : goal.invariant-loop-rest
 invariant-loop-rest l =
-    let left = records_as l.from.width l.to.width l.rest in
+    let left = records_as l.fn.from.width l.fn.to.width l.rest in
     (length l.output ≡ length l.initial.output)
     × (l.written + length left ≤ length l.output)
-    × (take l.written l.output ++ over left (drop l.written l.output) ≡ over (records_as l.from.width l.to.width l.list) l.initial.output)
+    × (take l.written l.output ++ over left (drop l.written l.output) ≡ over (records_as l.fn.from.width l.fn.to.width l.list) l.initial.output)
 
 abbrev pub decreases-loop-rest : goal.decreases-loop-rest
 decreases-loop-rest l = length l.rest

@@ -2,10 +2,9 @@ use mathlib.Core.Path.{refl, ◌∙◌, ap, ap₂}
 use mathlib.Core.List.{List}
 use Prim.Native.Nat.{ℕ}
 use native.Mathlib.Omega.{arith}
-use lib.ListN.{take}
 use Rattle.octets.specs.Bytes.{numbers_in}
 use Rattle.reading.specs.Layout.{record_widths_with}
-use Rattle.conversion.specs.Conversion.{fits, good_row, rows_in, all_rows}
+use Rattle.conversion.specs.Conversion.{fits, good_row}
 use Rattle.conversion.proofs.RowsLaws.{row-asked, row_read, all_more, all_tested}
 use Rattle.conversion.proofs.test_records.Goals as goal
 

@@ -8,8 +8,8 @@ use Rattle.conversion.proofs.test_records.Given as goal
 
 abbrev pub invariant-loop-rest : goal.invariant-loop-rest
 invariant-loop-rest l =
-    ((l.good && all_rows good_row (rows_in l.from.width l.rest)) ≡ all_rows good_row (rows_in l.from.width l.list))
-    × ((l.fit && all_rows (fits (record_widths_with l.to.width)) (rows_in l.from.width l.rest)) ≡ all_rows (fits (record_widths_with l.to.width)) (rows_in l.from.width l.list))
+    ((l.good && all_rows good_row (rows_in l.fn.from.width l.rest)) ≡ all_rows good_row (rows_in l.fn.from.width l.list))
+    × ((l.fit && all_rows (fits (record_widths_with l.fn.to.width)) (rows_in l.fn.from.width l.rest)) ≡ all_rows (fits (record_widths_with l.fn.to.width)) (rows_in l.fn.from.width l.list))
 
 abbrev pub decreases-loop-rest : goal.decreases-loop-rest
 decreases-loop-rest l = length l.rest
