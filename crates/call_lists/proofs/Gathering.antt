@@ -10,7 +10,6 @@ use Rattle.reading_laws.specs.RecordingsLaws.{squares-le}
 use Rattle.rms.specs.declared.Part.{Part}
 use Rattle.rms.specs.declared.Gatherer.{Gatherer}
 use Rattle.rms.specs.declared.Share.{Share}
-use Rattle.rms.specs.declared.Gathered.{Gathered}
 use Rattle.rms.specs.Gather.{part_of, no_sample, with_part, with_half, cut, ends_with, gathered, ValidGatherer, PartFits}
 use Rattle.rms.specs.GatherLaws.{part_of-fits, with_part-valid, with_half-valid}
 use Rattle.rms.specs.CutLaws.{Within, cut-within, next-below}

@@ -1,5 +1,5 @@
 -- One sample more.
-use Rattle.std.proofs.Common.{pos, get_or, arith, rules}
+use Rattle.std.proofs.Common.{pos, get_or, rules}
 use Rattle.call_lists.proofs.Gathering.{gathered-valid}
 use Rattle.call_lists.proofs.gather_samples.Goals as goal
 
