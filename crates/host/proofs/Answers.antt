@@ -1,6 +1,6 @@
 -- The ways of advance and of try: each refusal leaves every buffer as it was; else they are as feed, the reply and save leave them. And the ways of the count.
-use Rattle.std.specs.Prelude.{◌≡◌, ◌≢◌, if◌then◌else◌, Bool, true, false, not, List, ℕ, zero, suc, ◌%◌, ◌≤◌, ◌<◌, length, Result, Ok, Err}
-use Rattle.std.proofs.Common.{sym, ◌∙◌, ap, arith, eq-eqb, ne_eqb, le-leb, lt-ltb, le-ltb}
+use Rattle.std.specs.Prelude.{◌≢◌, if◌then◌else◌, Bool, true, false, not, List, ℕ, zero, suc, ◌%◌, ◌≤◌, ◌<◌, length, Result, Ok, Err}
+use Rattle.std.proofs.Common.{◌≡◌, refl, sym, ◌∙◌, ap, arith, eq-eqb, ne_eqb, le-leb, lt-ltb, le-ltb}
 use Rattle.std.proofs.lemmas.Bool.{lt-leb}
 use Rattle.numbers.specs.Notation.{◌≡ᵇ◌, refuse◌unless◌then◌}
 use Rattle.numbers.specs.Answers.{Answered, answered}
@@ -91,16 +91,16 @@ module _ (image samples : List ℕ) where
   first-stays : (n : ℕ) → block_refusal image samples 0 ≡ n → 0 < n → (rest : ℕ) → block_refusal image samples rest ≡ n
   first-stays n e some rest = go (restore_refusal image ≡ᵇ 0) even e
     where
-      go : (good even : Bool) → goes (restore_refusal image) good even 0 ≡ n → goes (restore_refusal image) good even rest ≡ n
-      go false even e = e
+      go : (good whole : Bool) → goes (restore_refusal image) good whole 0 ≡ n → goes (restore_refusal image) good whole rest ≡ n
+      go false whole e = e
       go true false e = e
       go true true e = absurd (omega arith)
 
   first-passes : block_refusal image samples 0 ≡ 0 → (rest : ℕ) → block_refusal image samples rest ≡ rest
   first-passes e rest = go (restore_refusal image ≡ᵇ 0) refl even e
     where
-      go : (good : Bool) → (restore_refusal image ≡ᵇ 0) ≡ good → (even : Bool) → goes (restore_refusal image) good even 0 ≡ 0 → goes (restore_refusal image) good even rest ≡ rest
-      go false not_good even e = let z : false ≡ true = sym not_good ∙ eq-eqb (restore_refusal image) 0 e in let y : ◌≡◌ {A = ℕ} 0 1 = cc in absurd (omega arith)
+      go : (good : Bool) → (restore_refusal image ≡ᵇ 0) ≡ good → (whole : Bool) → goes (restore_refusal image) good whole 0 ≡ 0 → goes (restore_refusal image) good whole rest ≡ rest
+      go false not_good whole e = let z : false ≡ true = sym not_good ∙ eq-eqb (restore_refusal image) 0 e in let y : ◌≡◌ {A = ℕ} 0 1 = cc in absurd (omega arith)
       go true good false e = absurd (omega arith)
       go true good true e = refl
 

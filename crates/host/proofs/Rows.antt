@@ -1,9 +1,9 @@
 -- A row of numbers of 8 bytes each.
-use Rattle.std.specs.Prelude.{◌≡◌, refl, ℕ, zero, suc, ◌*◌, length, replicate}
-use Rattle.std.proofs.Common.{ap, arith}
+use Rattle.std.specs.Prelude.{ℕ, zero, suc, ◌*◌, length, replicate}
+use Rattle.std.proofs.Common.{◌≡◌, refl, ap, arith}
 use Rattle.octets.specs.Bytes.{total}
 
-pub length-eights : (n : ℕ) → length (replicate n 8) ≡ n
+pub length-eights : (n : ℕ) → length {A = ℕ} (replicate n 8) ≡ n
 length-eights zero = refl
 length-eights (suc n) = ap suc (length-eights n)
 

@@ -84,7 +84,7 @@ fn put_front<const N: usize>(reply: &mut [u8], numbers: &[u64; N])
 // Taken, written and why.
 fn put_reply(reply: &mut [u8], told: Told)
     requires { reply_length ≤ length reply.old }
-    ensures { reply.new ≡ replied told reply.old }
+    ensures { reply.new ≡ replied (told_in told) reply.old }
 {
     let why = told.why_number();
     put_front(
@@ -123,7 +123,8 @@ fn resume_for(image: &[u8], samples: &[u8]) -> Result<Logger, Refusal>
 fn begin(settings: &[u8], image: &mut [u8]) -> Result<(), Refusal>
     ensures { begun_to (number_in result) image.new ≡ begun settings.now image.old }
 {
-    Logger::start(settings)?.save(image)
+    let logger = Logger::start(settings)?;
+    logger.save(image)
 }
 
 fn advance(

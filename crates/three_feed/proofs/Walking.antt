@@ -242,79 +242,80 @@ module _ {s : Settings} {ws₀ : Three (List ℕ)} {ms₀ : List ℕ} {block : L
       }
 
       -- what `complete` gave, on the buffer behind the records written before
-      module _ {ws₁ : Three (List ℕ)} {ms₁ part : List ℕ} where
-        abbrev outcome : Result Half Stop → HalfOutcome
-        outcome ended = half_of s g j sums q ended ws₁ ms₁ part
+      abbrev outcome : Result Half Stop → Three (List ℕ) → List ℕ → List ℕ → HalfOutcome
+      outcome ended ws₁ ms₁ part = half_of s g j sums q ended ws₁ ms₁ part
 
-        abbrev Gives : Result Half Stop → Type 0
-        Gives ended = outcome ended ≡ half_outcome st q (take (length out - behind) (drop behind out))
+      abbrev Gives : Result Half Stop → Three (List ℕ) → List ℕ → List ℕ → Type 0
+      Gives ended ws₁ ms₁ part = outcome ended ws₁ ms₁ part ≡ half_outcome st q (take (length out - behind) (drop behind out))
 
-        abbrev back : List ℕ
-        back = put_mid behind (length out - behind) out part
+      abbrev back : List ℕ → List ℕ
+      back part = put_mid behind (length out - behind) out part
 
-        back_is : back ≡ take behind out ++ part
-        back_is = back-behind behind out part (omega (arith, inv.fits, inv.long))
+      back_is : (part : List ℕ) → back part ≡ take behind out ++ part
+      back_is part = back-behind behind out part (omega (arith, inv.fits, inv.long))
 
-        room-is : room (drop behind out) ≡ left
-        room-is = omega (arith, length-drop behind out, inv.so_far.fits, inv.long)
+      room-is : room (drop behind out) ≡ left
+      room-is = omega (arith, length-drop behind out, inv.so_far.fits, inv.long)
 
-        given : (ended : Result Half Stop) → Gives ended → outcome ended ≡ half_by (three_why_not st p left) st p (drop behind out)
-        unfolding half_outcome
-        given ended is = is ∙ (λ i. half_outcome st (q-is i) (lent-behind behind out i)) ∙ ap (λ (k : ℕ). half_by (three_why_not st p k) st p (drop behind out)) room-is
+      given : (ended : Result Half Stop) (ws₁ : Three (List ℕ)) (ms₁ part : List ℕ) → Gives ended ws₁ ms₁ part →
+          outcome ended ws₁ ms₁ part ≡ half_by (three_why_not st p left) st p (drop behind out)
+      unfolding half_outcome
+      given ended ws₁ ms₁ part is =
+          is ∙ (λ i. half_outcome st (q-is i) (lent-behind behind out i)) ∙ ap (λ (k : ℕ). half_by (three_why_not st p k) st p (drop behind out)) room-is
 
-        -- it is taken
-        module _ {h : Half} (is : Gives (Ok h)) {g₁ : Three Gatherer} (halves_are : g₁ ≡ with_halves g q) where
-          abbrev after : ThreeState
-          after = three_with s g₁ h.joint ws₁ ms₁
+      -- it is taken
+      module _ (h : Half) {ws₁ : Three (List ℕ)} {ms₁ part : List ℕ} (is : Gives (Ok h) ws₁ ms₁ part) {g₁ : Three Gatherer} (halves_are : g₁ ≡ with_halves g q) where
+        abbrev after : ThreeState
+        after = three_with s g₁ h.joint ws₁ ms₁
 
-          took : (three_why_not st p left ≡ 0) × (outcome (Ok h) ≡ half_by 0 st p (drop behind out))
-          took = half-taken (three_why_not st p left) (outcome (Ok h)) st p (drop behind out) (given (Ok h) is) refl
+        took : (three_why_not st p left ≡ 0) × (outcome (Ok h) ws₁ ms₁ part ≡ half_by 0 st p (drop behind out))
+        took = half-taken (three_why_not st p left) (outcome (Ok h) ws₁ ms₁ part) st p (drop behind out) (given (Ok h) ws₁ ms₁ part is) refl
 
-          after_is : three_half st p ≡ after
-          after_is = sym (ap (λ (o : HalfOutcome). o.after) took.1) ∙ sym (ap (λ (k : Three Gatherer). three_with s k h.joint ws₁ ms₁) halves_are)
+        after_is : three_half st p ≡ after
+        after_is = sym (ap (λ (o : HalfOutcome). o.after) took.1) ∙ sym (ap (λ (k : Three Gatherer). three_with s k h.joint ws₁ ms₁) halves_are)
 
-          written_is : length (three_half_due st p) ≡ h.written
-          written_is = sym (ap (λ (o : HalfOutcome). o.written) took.1)
+        written_is : length (three_half_due st p) ≡ h.written
+        written_is = sym (ap (λ (o : HalfOutcome). o.written) took.1)
 
-          next : Progress three_machine ValidThree st₀ xs lent after (from + n) (written + h.written) back
-          next =
-              let t = taken-if (three_passes st p) (three_half_due st p) left took.0 in
-              subst (λ (k : ℕ). Progress three_machine ValidThree st₀ xs lent after (from + n) (written + k) back) written_is
-              (subst (λ (z : ThreeState). Progress three_machine ValidThree st₀ xs lent z (from + n) (written + length (three_half_due st p)) back) after_is
-              (progress-more inv.so_far n (three_half_due st p) (three_half st p) back inv.share_in t.1
-              (three_half-valid st p inv.so_far.valid p-fits t.0)
-              (feed-taken three_cuts st rest left (inv.so_far.valid.gatherer-valid on_a).0 share inv.cut-is completes took.0)
-              (back_is ∙ ap (λ (l : List ℕ). take behind out ++ l) (ap (λ (o : HalfOutcome). o.bytes) took.1))))
+        next : Progress three_machine ValidThree st₀ xs lent after (from + n) (written + h.written) (back part)
+        next =
+            let t = taken-if (three_passes st p) (three_half_due st p) left took.0 in
+            subst (λ (k : ℕ). Progress three_machine ValidThree st₀ xs lent after (from + n) (written + k) (back part)) written_is
+            (subst (λ (z : ThreeState). Progress three_machine ValidThree st₀ xs lent z (from + n) (written + length (three_half_due st p)) (back part)) after_is
+            (progress-more inv.so_far n (three_half_due st p) (three_half st p) (back part) inv.share_in t.1
+            (three_half-valid st p inv.so_far.valid p-fits t.0)
+            (feed-taken three_cuts st rest left (inv.so_far.valid.gatherer-valid on_a).0 share inv.cut-is completes took.0)
+            (back_is part ∙ ap (λ (l : List ℕ). take behind out ++ l) (ap (λ (o : HalfOutcome). o.bytes) took.1))))
 
-          pub taken-fits : written + h.written ≤ room lent
-          taken-fits = next.fits
+        pub taken-fits : written + h.written ≤ room lent
+        taken-fits = next.fits
 
-          pub taken-count : g₁.a.count < s.samples
-          taken-count = (next.valid.gatherer-valid on_a).0
+        pub taken-count : g₁.a.count < s.samples
+        taken-count = (next.valid.gatherer-valid on_a).0
 
-          pub walk-turns : (share₁ : Share) (lanes₁ : Three (List ℤ)) →
-              CutIs s g₁ (triples_of (take (length block - 3 * (from + n)) (drop (3 * (from + n)) block))) share₁ → LanesLong lanes₁ →
-              length part ≡ length (take (length out - behind) (drop behind out)) →
-              Walking s ws₀ ms₀ block lent g₀ j₀ ws₁ ms₁ back lanes₁ g₁ h.joint h.sums (from + n) (written + h.written) share₁
-          walk-turns share₁ lanes₁ cut-is lanes-long kept =
-              walking s ws₀ ms₀ block lent g₀ j₀ ws₁ ms₁ back lanes₁ g₁ h.joint h.sums (from + n) (written + h.written) share₁ next
-              (ap (λ (o : HalfOutcome). o.sums) took.1 ∙ ap (λ (z : ThreeState). joint_sums_of z.windows z.marks) after_is)
-              (cut-is ∙ ap (λ (l : List (Three ℤ)). cut s.samples g₁.a (channel on_a l)) (triples-behind (from + n) block))
-              lanes-long (same-records part kept) whole-triples
+        pub walk-turns : (share₁ : Share) (lanes₁ : Three (List ℤ)) →
+            CutIs s g₁ (triples_of (take (length block - 3 * (from + n)) (drop (3 * (from + n)) block))) share₁ → LanesLong lanes₁ →
+            length part ≡ length (take (length out - behind) (drop behind out)) →
+            Walking s ws₀ ms₀ block lent g₀ j₀ ws₁ ms₁ (back part) lanes₁ g₁ h.joint h.sums (from + n) (written + h.written) share₁
+        walk-turns share₁ lanes₁ cut-is lanes-long kept =
+            walking s ws₀ ms₀ block lent g₀ j₀ ws₁ ms₁ (back part) lanes₁ g₁ h.joint h.sums (from + n) (written + h.written) share₁ next
+            (ap (λ (o : HalfOutcome). o.sums) took.1 ∙ ap (λ (z : ThreeState). joint_sums_of z.windows z.marks) after_is)
+            (cut-is ∙ ap (λ (l : List (Three ℤ)). cut s.samples g₁.a (channel on_a l)) (triples-behind (from + n) block))
+            lanes-long (same-records part kept) whole-triples
 
-        -- it is not
-        pub walk-stops : (stop : Stop) → Gives (Err stop) → (last : ThreeWalked) →
-            WalkEnds g j (triples_of (take (3 * (from + n - 1) - 3 * from) (drop (3 * from) block))) (from + n - 1) written (Some stop) last →
-            WalkIs st₀ xs lent s ws₁ ms₁ last back
-        walk-stops stop is last ended =
-            let some : 0 < stop_number stop = stop-some stop in
-            let stopped = half-refused (three_why_not st p left) (outcome (Err stop)) st p (drop behind out) (given (Err stop) is) some in
-            let some_in : 0 < n = share-some in
-            let long : length (take (n - 1) rest) ≡ n - 1 = part-long from (n - 1) xs (omega (arith, inv.share_in)) in
-            walk-last last (take (n - 1) rest) _ (from + n - 1) (Some stop) ws₁ ms₁ back ended (triples-between from (n - 1) (from + n - 1) block (omega arith))
-            (omega (arith, inv.within.fits)) (ap (λ (z : ThreeState). z.windows) stopped.1) (ap (λ (z : ThreeState). z.marks) stopped.1) (n - 1) (omega arith)
-            (feed-stops three_cuts st rest left (inv.so_far.valid.gatherer-valid on_a).0 share inv.cut-is completes (stop_number stop) stopped.0 some)
-            (back_is ∙ ap (λ (l : List ℕ). take behind out ++ l) stopped.2)
+      -- it is not
+      pub walk-stops : (stop : Stop) {ws₁ : Three (List ℕ)} {ms₁ part : List ℕ} → Gives (Err stop) ws₁ ms₁ part → (last : ThreeWalked) →
+          WalkEnds g j (triples_of (take (3 * (from + n - 1) - 3 * from) (drop (3 * from) block))) (from + n - 1) written (Some stop) last →
+          WalkIs st₀ xs lent s ws₁ ms₁ last (back part)
+      walk-stops stop {ws₁} {ms₁} {part} is last ended =
+          let some : 0 < stop_number stop = stop-some stop in
+          let stopped = half-refused (three_why_not st p left) (outcome (Err stop) ws₁ ms₁ part) st p (drop behind out) (given (Err stop) ws₁ ms₁ part is) some in
+          let some_in : 0 < n = share-some in
+          let long : length (take (n - 1) rest) ≡ n - 1 = part-long from (n - 1) xs (omega (arith, inv.share_in)) in
+          walk-last last (take (n - 1) rest) _ (from + n - 1) (Some stop) ws₁ ms₁ (back part) ended (triples-between from (n - 1) (from + n - 1) block (omega arith))
+          (omega (arith, inv.within.fits)) (ap (λ (z : ThreeState). z.windows) stopped.1) (ap (λ (z : ThreeState). z.marks) stopped.1) (n - 1) (omega arith)
+          (feed-stops three_cuts st rest left (inv.so_far.valid.gatherer-valid on_a).0 share inv.cut-is completes (stop_number stop) stopped.0 some)
+          (back_is part ∙ ap (λ (l : List ℕ). take behind out ++ l) stopped.2)
 
   -- none ends
   pub end-ready : share.completes ≡ false →

@@ -36,8 +36,8 @@ overflow_add-written c =
     (read.auto.places ∙ length-take-le k.result l.samples (omega (arith, k.ensures, l.invariant.1))) read.ensures (c.feed-fed.ensures, valid-settled _ c.feed-fed.result.logger.valid) in
     omega (arith, fits)
 
-pub overflow_add-taken : goal.overflow_add-taken
-overflow_add-taken c =
+pub overflow_add-result : goal.overflow_add-result
+overflow_add-result c =
     let l = c.loop-at in
     let k = c.min-size in
     let read = c.decode in
@@ -45,13 +45,13 @@ overflow_add-taken c =
     (read.auto.places ∙ length-take-le k.result l.samples (omega (arith, k.ensures, l.invariant.1))) read.ensures (c.feed-fed.ensures, valid-settled _ c.feed-fed.result.logger.valid) in
     omega (arith, few, k.ensures, l.invariant.0.inside)
 
-pub returns-then-told-why : goal.returns-then-told-why
-returns-then-told-why c =
+pub returns-then-is_some : goal.returns-then-is_some
+returns-then-is_some c =
     let l = c.loop-at in
     let k = c.min-size in
     let read = c.decode in
     chunks-stop l.invariant.0 (omega (arith, k.ensures, l.invariant.0.inside)) l.samples
-    (read.auto.places ∙ length-take-le k.result l.samples (omega (arith, k.ensures, l.invariant.1))) read.ensures (c.feed-fed.ensures, valid-settled _ c.feed-fed.result.logger.valid) (why-some _ c.if-told-why.true)
+    (read.auto.places ∙ length-take-le k.result l.samples (omega (arith, k.ensures, l.invariant.1))) read.ensures (c.feed-fed.ensures, valid-settled _ c.feed-fed.result.logger.valid) (why-some _ c.if-is_some.true)
 
 pub overflow_add-at : goal.overflow_add-at
 overflow_add-at c =
@@ -69,7 +69,7 @@ loop-at-preserved c =
     let fed = c.feed-fed in
     let behind = record_length * l.written in (
       chunks-turn l.invariant.0 (omega (arith, k.ensures, l.invariant.0.inside)) l.samples
-          (read.auto.places ∙ length-take-le k.result l.samples (omega (arith, k.ensures, l.invariant.1))) read.ensures (c.feed-fed.ensures, valid-settled _ c.feed-fed.result.logger.valid) (why-none _ c.if-told-why.false)
+          (read.auto.places ∙ length-take-le k.result l.samples (omega (arith, k.ensures, l.invariant.1))) read.ensures (c.feed-fed.ensures, valid-settled _ c.feed-fed.result.logger.valid) (why-none _ c.if-is_some.false)
           (same_len_mid behind (length l.records - behind) l.records fed.new.records fed.auto.records),
       length_front l.samples read.new.places k.result read.auto.places ∙ l.invariant.1,
     )

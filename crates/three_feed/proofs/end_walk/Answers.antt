@@ -6,11 +6,6 @@ use Rattle.rms.specs.declared.Part.{Part}
 use Rattle.three_feed.proofs.EachPart.{part-joins}
 use Rattle.three_feed.proofs.end_walk.Goals as goal
 
-pub parts_of-parts-requires : goal.parts_of-parts-requires
-parts_of-parts-requires c =
-    let pre = c.requires in
-    (pre.0, omega (arith, pre.0, pre.1 on_a), pre.2, pre.3, pre.4)
-
 pub with_part-requires : goal.with_part-requires
 with_part-requires c =
     part-joins c.args.gatherers c.args.block.now c.parts_of-parts.result c.requires.1 c.parts_of-parts.ensures.0 on_a

@@ -32,11 +32,7 @@ complete-requires c =
     complete-ready c.loop-share.invariant c.loop-share-test.true c.parts_of-parts.ensures.0 c.scaled-scaled.result c.scaled-scaled.ensures
 
 pub end_walk-requires : goal.end_walk-requires
-end_walk-requires c =
-    let r = stop-ready c.loop-share.invariant c.loop-share-test.true in
-    let p = c.parts_of-parts.auto in
-    let long = c.loop-share.invariant.lanes-long in
-    (r.0, r.1, p.a ∙ long on_a, p.b ∙ long on_b, p.c ∙ long on_c)
+end_walk-requires c = stop-ready c.loop-share.invariant c.loop-share-test.true
 
 pub returns-in-Err : goal.returns-in-Err
 returns-in-Err c =
@@ -50,27 +46,24 @@ halves_of-g-requires c =
 pub overflow_add-written : goal.overflow_add-written
 overflow_add-written c =
     let fits =
-    taken-fits c.loop-share.invariant c.loop-share-test.true c.parts_of-parts.ensures.0 c.in-Ok.ensures c.halves_of-g.ensures in
+    taken-fits c.loop-share.invariant c.loop-share-test.true c.parts_of-parts.ensures.0 c.in-Ok.half c.in-Ok.ensures c.halves_of-g.ensures in
     let h : c.loop-share.written + c.in-Ok.half.written < 2 ^ 64 = omega (arith, fits, c.well_formed) in
     record { fits = h }
 
 pub cut_of-share-requires-in-Ok : goal.cut_of-share-requires-in-Ok
 cut_of-share-requires-in-Ok c =
-    taken-count c.loop-share.invariant c.loop-share-test.true c.parts_of-parts.ensures.0 c.in-Ok.ensures c.halves_of-g.ensures
+    taken-count c.loop-share.invariant c.loop-share-test.true c.parts_of-parts.ensures.0 c.in-Ok.half c.in-Ok.ensures c.halves_of-g.ensures
 
 pub loop-share-preserved : goal.loop-share-preserved
 loop-share-preserved c =
     let p = c.parts_of-parts.auto in
     let long = c.loop-share.invariant.lanes-long in
-    walk-turns c.loop-share.invariant c.loop-share-test.true c.parts_of-parts.ensures.0 c.in-Ok.ensures c.halves_of-g.ensures
+    walk-turns c.loop-share.invariant c.loop-share-test.true c.parts_of-parts.ensures.0 c.in-Ok.half c.in-Ok.ensures c.halves_of-g.ensures
     c.cut_of-share-in-Ok.result _ c.cut_of-share-in-Ok.ensures (three-long _ (p.a ∙ long on_a) (p.b ∙ long on_b) (p.c ∙ long on_c))
     c.complete.auto.records
 
 pub end_walk-requires-2 : goal.end_walk-requires-2
-end_walk-requires-2 c =
-    let inv = c.loop-share.invariant in
-    let r = end-ready inv c.loop-share-test.false in
-    (r.0, r.1, inv.lanes-long on_a, inv.lanes-long on_b, inv.lanes-long on_c)
+end_walk-requires-2 c = end-ready c.loop-share.invariant c.loop-share-test.false
 
 pub returns : goal.returns
 returns c = walk_ends c.loop-share.invariant c.loop-share-test.false c.end_walk-2.result c.end_walk-2.ensures
