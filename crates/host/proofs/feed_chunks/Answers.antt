@@ -1,4 +1,4 @@
-use mathlib.Core.Path.{refl, ◌∙◌}
+use mathlib.Core.Path.{refl, sym, ◌∙◌}
 use Prim.Native.Nat.{◌-◌, ◌*◌}
 use native.Mathlib.Omega.{arith}
 use lib.ListN.{length, length-take, length-drop}
@@ -51,7 +51,7 @@ returns-then-is_some c =
     let k = c.min-size in
     let read = c.decode in
     chunks-stop l.invariant.0 (omega (arith, k.ensures, l.invariant.0.inside)) l.samples
-    (read.auto.places ∙ length-take-le k.result l.samples (omega (arith, k.ensures, l.invariant.1))) read.ensures (c.feed-fed.ensures, valid-settled _ c.feed-fed.result.logger.valid) (why-some _ c.if-is_some.true)
+    (read.auto.places ∙ length-take-le k.result l.samples (omega (arith, k.ensures, l.invariant.1))) read.ensures (c.feed-fed.ensures, valid-settled _ c.feed-fed.result.logger.valid) (why-some _ (sym c.is_some.ensures ∙ c.if-is_some.true))
 
 pub overflow_add-at : goal.overflow_add-at
 overflow_add-at c =
@@ -69,7 +69,7 @@ loop-at-preserved c =
     let fed = c.feed-fed in
     let behind = record_length * l.written in (
       chunks-turn l.invariant.0 (omega (arith, k.ensures, l.invariant.0.inside)) l.samples
-          (read.auto.places ∙ length-take-le k.result l.samples (omega (arith, k.ensures, l.invariant.1))) read.ensures (c.feed-fed.ensures, valid-settled _ c.feed-fed.result.logger.valid) (why-none _ c.if-is_some.false)
+          (read.auto.places ∙ length-take-le k.result l.samples (omega (arith, k.ensures, l.invariant.1))) read.ensures (c.feed-fed.ensures, valid-settled _ c.feed-fed.result.logger.valid) (why-none _ (sym c.is_some.ensures ∙ c.if-is_some.false))
           (same_len_mid behind (length l.records - behind) l.records fed.new.records fed.auto.records),
       length_front l.samples read.new.places k.result read.auto.places ∙ l.invariant.1,
     )

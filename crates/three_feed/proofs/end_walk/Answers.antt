@@ -1,10 +1,14 @@
 -- The parts that the last triples are go into the gatherers.
 use Rattle.std.proofs.Common.{◌∙◌, ap, arith}
 use Rattle.rms.specs.Gather.{with_part}
+use Rattle.three_reading.specs.declared.Three.{Three}
 use Rattle.three_reading.specs.Three.Channel.{on_a, on_b, on_c}
 use Rattle.rms.specs.declared.Part.{Part}
 use Rattle.three_feed.proofs.EachPart.{part-joins}
 use Rattle.three_feed.proofs.end_walk.Goals as goal
+
+pub parts_of-parts-requires : goal.parts_of-parts-requires
+parts_of-parts-requires c = (c.requires.0, omega (arith, c.requires.0, c.requires.1 on_a), c.told-lane_a, c.told-lane_b, c.told-lane_c)
 
 pub with_part-requires : goal.with_part-requires
 with_part-requires c =
