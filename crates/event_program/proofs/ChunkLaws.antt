@@ -1,5 +1,5 @@
 -- Chunks come to an end: one that is taken whole lowers what is left.
-use Rattle.std.proofs.Common.{◌≡◌, Bool, true, false, ◌&&◌, List, ℕ, ℤ, ◌+◌, ◌*◌, ◌<◌, length, sym, ◌∙◌, ap, arith, eqb-true}
+use Rattle.std.proofs.Common.{◌≡◌, Bool, true, false, ◌&&◌, List, ℕ, ℤ, ◌+◌, ◌*◌, ◌<◌, length, sym, arith, eqb-true}
 use Rattle.std.specs.Prelude.{if◌then◌else◌}
 use Rattle.std.proofs.Math.Path.{refl, subst}
 use Rattle.numbers.specs.Notation.{◌≡ᵇ◌}

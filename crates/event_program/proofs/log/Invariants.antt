@@ -1,5 +1,5 @@
 -- The measure: what is left to V's end while there is more, for a whole chunk that is taken lowers it.
-use Rattle.std.proofs.Common.{◌≡◌, ◌+◌, ◌*◌, length}
+use Rattle.std.proofs.Common.{◌≡◌, ◌+◌, length}
 use Rattle.std.specs.Prelude.{if◌then◌else◌}
 use Rattle.event_program.proofs.log.Given as goal
 
