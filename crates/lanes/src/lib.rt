@@ -23,7 +23,7 @@ fn chosen(turn: u16, x: i16, y: i16, z: i16) -> i16
 
 // Lays each channel's samples side by side, in an order of their own: a sum of squares and a mark do not depend on it. The block is read as three rows of
 // neighbours, `a.len()` in each: where that leaves 1 when divided by three, the three samples of one column are of three channels, and which is whose goes in
-// turn. Processors so choose eight samples in one step.
+// turn. Processors so choose eight samples in one step. By place, here and below: after a `zip` with what `iter_mut` lends, nothing is known of the lanes.
 fn split(block: &[i16], a: &mut [i16], b: &mut [i16], c: &mut [i16])
     requires { (length block.now ≡ 3 * length a.old) × (length a.old ≤ 256) × (length b.old ≡ length a.old)
         × (length c.old ≡ length a.old) }

@@ -1,15 +1,13 @@
 -- What a turn of this crate's loops does to a list: one element more is read, one element or one part more is written; and what holds when all is written.
 use mathlib.Core.Path.{◌≡◌, ap, ap₂, sym, ◌∙◌}
 use mathlib.Core.List.{List, [], ◌∷◌, ◌++◌, append_assoc, append-nil}
-use Prim.Native.Nat.{ℕ, zero, suc, ◌+◌, ◌-◌, ◌^◌, ◌≤◌, ◌<◌}
+use Prim.Native.Nat.{ℕ, zero, suc, ◌+◌, ◌≤◌, ◌<◌}
 use native.Mathlib.Omega.{arith}
-use native.Mathlib.Nat.{add-sub_cancel_left}
 use native.Mathlib.Numerals.{add-one}
-use lib.ListN.{length, get_or, take, drop, set, length-append, length-take}
-use lib.Seq.{drop-cons, take-suc-set, take_all, take_at, length-take-le, drop-drop}
+use lib.ListN.{length, get_or, take, drop, set, length-append}
+use lib.Seq.{drop-cons, take-suc-set, take_all, take_at, length-take-le}
 use borrow.Rule.Slice.PartMut.{put_mid, post_of}
-use Rattle.octets.specs.Bytes.{bytes_of, number_of, row, numbers_in, total, Narrow}
-use Rattle.octets.specs.BytesLaws.{bytes-by, bytes_take, bytes_drop, number_of-lt}
+use Rattle.octets.specs.Bytes.{bytes_of, row, total, Narrow}
 
 -- the elements from i on are the one at i and those behind it
 pub drop-one : (l : List ℕ) (i : ℕ) → i < length l → drop i l ≡ get_or l i 0 ∷ drop (i + 1) l
@@ -40,23 +38,8 @@ pub row_next : (ws ns : List ℕ) (k : ℕ) → k < length ws → k < length ns 
     row (drop k ws) (drop k ns) ≡ bytes_of (get_or ws k 0) (get_or ns k 0) ++ row (drop (k + 1) ws) (drop (k + 1) ns)
 row_next ws ns k h l = ap₂ row (drop-one ws k h) (drop-one ns k l)
 
--- the numbers from place `at` on: the first w bytes there, and what stands behind them
-pub numbers-next : (ws b : List ℕ) (k at : ℕ) → k < length ws →
-    numbers_in (drop k ws) (drop at b) ≡ number_of (take (get_or ws k 0) (drop at b)) ∷ numbers_in (drop (k + 1) ws) (drop (at + get_or ws k 0) b)
-numbers-next ws b k at h =
-    ap (λ (l : List ℕ). numbers_in l (drop at b)) (drop-one ws k h)
-    ∙ ap (λ (l : List ℕ). number_of (take (get_or ws k 0) (drop at b)) ∷ numbers_in (drop (k + 1) ws) l) (drop-drop (get_or ws k 0) at b)
-
 -- each width is at most 8
 pub narrow_at : (ws : List ℕ) → Narrow ws → (k : ℕ) → get_or ws k 0 ≤ 8
 narrow_at [] h k = omega arith
 narrow_at (w ∷ ws) h zero = h.0
 narrow_at (w ∷ ws) h (suc k) = narrow_at ws h.1 k
-
--- the number r of the w bytes that are lent from o on
-module _ (w o r : ℕ) (b : List ℕ) (is : r ≡ number_of (take (o + w - o) (drop o b))) where
-  pub read_at : r ≡ number_of (take w (drop o b))
-  read_at = is ∙ ap (λ (k : ℕ). number_of (take k (drop o b))) (add-sub_cancel_left o w)
-
-  pub read-lt : ((i : ℕ) → get_or b i 0 < 256) → r < 256 ^ w
-  read-lt each = rw read_at (number_of-lt w (take w (drop o b)) (bytes_take w (drop o b) (bytes_drop o b (bytes-by b each))) (simp length-take (omega arith)))

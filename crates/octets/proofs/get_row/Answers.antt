@@ -1,10 +1,7 @@
-use Rattle.std.proofs.Common.{◌≡◌, arith, ℕ, List, [], ◌∷◌, ◌+◌, drop, drop_of_length-le}
+use Rattle.std.proofs.Common.{◌≡◌, arith, ℕ, List, ◌∷◌, ◌+◌, drop}
 use Rattle.octets.specs.Bytes.{numbers_in}
-use Rattle.octets.proofs.Loops.{drop-one, one_more, all-stand, total-next, narrow_at}
+use Rattle.octets.proofs.Loops.{drop-one, one_more, total-next, narrow_at}
 use Rattle.octets.proofs.get_row.Goals as goal
-
-pub split_at-requires : goal.split_at-requires
-split_at-requires c = omega (arith, total-next c.args.widths.now c.loop-k.k (omega arith))
 
 pub number-requires : goal.number-requires
 number-requires c = omega (arith, narrow_at c.args.widths.now c.requires.2 c.loop-k.k)
@@ -17,9 +14,3 @@ loop-k-preserved c =
     let next : numbers_in (drop l.k widths) l.rest.now ≡ c.number.result ∷ numbers_in (drop (l.k + 1) widths) c.split_at.result.1.now =
     rw (drop-one widths l.k (omega arith), c.number.ensures, c.split_at.ensures.front, c.split_at.ensures.back, c.from.ensures) in
     (omega arith, one_more l.k l.numbers _ _ c.number.result (omega arith) (rw next at l.invariant.1))
-
-pub returns : goal.returns
-returns c =
-    let l = c.loop-k in
-    let none : drop l.k c.args.widths.now ≡ [] = drop_of_length-le _ {i = l.k} (omega arith) in
-    all-stand l.k l.numbers _ (omega arith) (rw none at l.invariant.1)

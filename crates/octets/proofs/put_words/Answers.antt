@@ -1,7 +1,7 @@
-use Rattle.std.proofs.Common.{◌≡◌, ◌∙◌, ap, arith, ℕ, List, [], ◌++◌, ◌-◌, ◌+◌, ◌*◌, length, drop, get_or, drop_of_length-le}
+use Rattle.std.proofs.Common.{◌≡◌, ◌∙◌, ap, arith, ℕ, List, ◌++◌, ◌-◌, ◌+◌, ◌*◌, length, drop, get_or}
 use Rattle.octets.specs.Bytes.{bytes_of, row, fours}
 use Rattle.octets.specs.BytesLaws.{length-bytes_of}
-use Rattle.octets.proofs.Loops.{drop-one, part-more, all-stand}
+use Rattle.octets.proofs.Loops.{drop-one, part-more}
 use Rattle.octets.proofs.Arrays.{bytes_of-four}
 use Rattle.octets.proofs.put_words.Goals as goal
 
@@ -17,10 +17,3 @@ loop-k-preserved c =
     let next : row (fours (drop l.k numbers)) (drop l.k numbers) ≡ four ++ row (fours (drop (l.k + 1) numbers)) (drop (l.k + 1) numbers) =
     rw is (ap (λ (ns : List ℕ). row (fours ns) ns) (drop-one numbers l.k (omega arith))) in
     part-more at l.part _ _ (at + 4 - at) (4 * (l.k + 1)) four (omega arith) (omega arith) (rw next at l.invariant)
-
-pub returns : goal.returns
-returns c =
-    let l = c.loop-k in
-    let numbers : List ℕ = c.args.numbers.now in
-    let none : drop l.k numbers ≡ [] = drop_of_length-le numbers {i = l.k} (omega arith) in
-    all-stand (4 * l.k) l.part (row (fours numbers) numbers) (omega arith) (rw none at l.invariant)

@@ -6,11 +6,10 @@ use Rattle.octets.specs.BytesLaws.{bytes-by}
 use Rattle.reading.specs.declared.Event.{Event}
 use Rattle.reading.specs.Layout.{record_length}
 use Rattle.reading.specs.Records.{event_of, events_of}
-use Rattle.records.specs.ListLaws.{record_at, record-length, magnitudes-fit}
-use Rattle.day_count.specs.declared.Tally.{Tally}
+use Rattle.records.specs.ListLaws.{record_at, magnitudes-fit}
 use Rattle.day_count.specs.Days.{known_kind}
 use Rattle.day_count.specs.Count.{tally_of, tallied}
-use Rattle.day_count.specs.CountLaws.{TalliedTo, tallied-none, tallied-next, tallied-all, known_next, known-all}
+use Rattle.day_count.specs.CountLaws.{TalliedTo, tallied-next, known_next}
 use Rattle.day_count.proofs.Chunks.{cut}
 use Rattle.day_count.proofs.Day.tally_list.Goals.{After-tally_of-one}
 use Rattle.day_count.proofs.Day.tally_list.Goals as goal
@@ -37,15 +36,6 @@ after c =
     (omega arith) (c.tally_of-one.ensures ∙ ap (tally_of a.self.settings a.self.z a.self.day) is)
     (known-is is (sym c.if-not-is_known.false ∙ c.is_known.ensures))
 
-pub loop-bytes-init : goal.loop-bytes-init
-loop-bytes-init c = tallied-none _ _ _ _
-
-pub get_record-event-requires : goal.get_record-event-requires
-get_record-event-requires c =
-    let b = c.args.records.now in
-    let i = c.loop-bytes.bytes-index in
-    ap length (cut c.as_chunks.result.0.now b i c.as_chunks.ensures.front (omega arith)) ∙ record-length b i (omega arith)
-
 pub tally_of-one-requires : goal.tally_of-one-requires
 tally_of-one-requires c =
     let b = c.args.records.now in
@@ -53,12 +43,6 @@ tally_of-one-requires c =
     let fit = magnitudes-fit b c.loop-bytes.bytes-index are in
     let is = event-is c.as_chunks.result.0.now b c.loop-bytes.bytes-index c.as_chunks.ensures.front (omega arith) c.get_record-event.ensures in
     (rw is fit.0, rw is fit.1)
-
-pub overflow_add-second : goal.overflow_add-second
-overflow_add-second c = record { fits = omega (arith, (after (goal.at.overflow_add-second c).After-tally_of-one).seconds.most) }
-
-pub overflow_add-first : goal.overflow_add-first
-overflow_add-first c = record { fits = omega (arith, (after (goal.at.overflow_add-first c).After-tally_of-one).firsts.most) }
 
 pub loop-bytes-preserved : goal.loop-bytes-preserved
 loop-bytes-preserved c = after (goal.at.loop-bytes-preserved c).After-tally_of-one
@@ -72,14 +56,3 @@ returns-then-not-is_known c =
     let unknown : false ≡ known_kind (event_of (record_at b i)).kind = known-is is (sym c.if-not-is_known.true ∙ c.is_known.ensures) in
     ap (λ (known : Bool). answered (refuse 17 unless known then 0) (tallied a.self.settings a.self.z a.self.day (events_of b)))
     (known_next b i true false (omega arith) c.loop-bytes.invariant.all_known unknown)
-
-pub returns : goal.returns
-returns c =
-    let a = c.args in
-    let b = a.records.now in
-    let loop = c.loop-bytes in
-    let whole : loop.bytes-index ≡ length b / record_length = omega arith in
-    let t : Tally = record { second = loop.second; first = loop.first } in
-    ap (λ (u : Tally). answered 0 u) (tallied-all a.self.settings a.self.z a.self.day b loop.bytes-index loop.second loop.first true loop.invariant whole)
-    ∙ ap (λ (known : Bool). answered (refuse 17 unless known then 0) (tallied a.self.settings a.self.z a.self.day (events_of b)))
-    (known-all b loop.bytes-index true whole loop.invariant.all_known)
