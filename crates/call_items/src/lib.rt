@@ -212,7 +212,7 @@ pub fn print_standing(
     print(rt, format_args!(" {phase} {dip} {swell} {interruption}\n"));
 }
 
-// A digit in base sixteen.
+// A digit in base sixteen. `char::from_digit` would be no plainer: it gives an `Option<char>`, to be taken apart and cast.
 #[tactic(auto, unfolding(crate::specs::Items::digit_of))]
 fn digit(number: u8) -> u8
     requires { number < 16 }
@@ -226,7 +226,7 @@ fn digit(number: u8) -> u8
 }
 
 // Two digits for each byte, from the text's start on; what is behind them stays. `{:02x}` would be a write for each byte, and no contract says what it puts
-// into an array.
+// into an array. By place: after a `zip` with what `chunks_exact_mut` lends, nothing is known of the text.
 fn put_hex(text: &mut [u8], bytes: &[u8])
     requires { 2 * length bytes.now ≤ length text.old }
     ensures { text.new ≡ hex_of bytes.now ++ drop (2 * length bytes.now) text.old }

@@ -32,12 +32,10 @@ const PLACES: usize = 16;
 
 type Image = [u8; IMAGE_LENGTH];
 
-// The saves that are kept of a list.
+// The saves that are kept of a list, in the places from the first on.
 #[derive(Clone, Copy)]
 struct Saves {
-    images: [Image; PLACES],
-    kept: usize,
-    ghost inside: { kept ≤ 16 },
+    places: [Option<Image>; PLACES],
 }
 
 // A logger, and the saves of its list.
@@ -57,22 +55,20 @@ struct Counted {
 impl Saves {
     fn new() -> Saves {
         Saves {
-            images: [[0; IMAGE_LENGTH]; PLACES],
-            kept: 0,
+            places: [None; PLACES],
         }
     }
 
-    // Keeps an image in the next place, if there is one.
+    // Keeps an image in the first place that is free, if there is one.
     fn keep(&mut self, image: &Image) {
-        if self.kept < PLACES {
-            self.images[self.kept] = *image;
-            self.kept += 1;
+        if let Some(free) = self.places.iter().position(|place| place.is_none()) {
+            self.places[free] = Some(*image);
         }
     }
 
-    // A save by its place among those that are kept.
+    // A save by its place.
     fn get(&self, which: usize) -> Option<&Image> {
-        self.images[..self.kept].get(which)
+        self.places.get(which)?.as_ref()
     }
 }
 
