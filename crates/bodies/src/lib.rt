@@ -59,7 +59,7 @@ pub const IMAGE_LENGTH: usize = EVENTS_AT + EVENTS_LENGTH;
 
 const TABLE_WIDTHS: [u8; 12] = [4, 2, 2, 4, 2, 2, 4, 2, 2, 4, 2, 2];
 
-// Code, offset and length of each body, in the edition whose counts have so many bytes.
+// Code, offset and length of each body, in the edition whose counts have so many bytes: a number, since the converter's promises speak of widths.
 pub fn put_table(part: &mut [u8], count_width: u64)
     requires { (length part.old ≡ table_length) × (count_width ≤ 8) }
     ensures { part.new ≡ table_with count_width }
@@ -113,6 +113,7 @@ pub fn put_gatherer(part: &mut [u8], gatherer: Gatherer)
     octets::put_row(part, &widths, &numbers);
 }
 
+#[tactic(auto, unfolding(crate::specs::Bodies::gatherer_answer))]
 pub fn read_gatherer(part: &[u8], settings: Settings) -> Result<Gatherer, Refusal>
     requires { length part.now ≡ gatherer_length }
     ensures { answer_in result ≡ gatherer_answer settings part.now }

@@ -2,7 +2,7 @@
 use mathlib.Core.Path.{◌≡◌, refl, sym, ◌∙◌, ap, ap₂}
 use mathlib.Core.Bool.{Bool}
 use mathlib.Core.List.{List, [], ◌∷◌, ◌++◌}
-use Prim.Native.Nat.{ℕ, ◌+◌, ◌-◌}
+use Prim.Native.Nat.{ℕ, ◌-◌}
 use native.Mathlib.Omega.{arith}
 use lib.ListN.{length, take, drop, replicate, take-append-drop, length-take, length-drop}
 use lib.Seq.{take_all, take_at, drop_at, drop-drop, take-append-le, drop-append-le}
@@ -15,7 +15,6 @@ use Rattle.settings.specs.declared.Settings.{Settings}
 use Rattle.settings.specs.Settings.{window_length_of}
 use Rattle.reading.specs.Layout.{count_width, places, values_widths, values_length}
 use Rattle.reading.specs.Restore.{values_rule}
-use Rattle.bodies.specs.declared.WindowRead.{WindowRead}
 use Rattle.bodies.specs.Bodies.{marks_at, window_from, window_answer}
 use Rattle.bodies.proofs.read_window.Goals as goal
 
