@@ -1,5 +1,5 @@
 -- The invariant: the first i places of each lane hold the first i samples that it is to have.
-use Rattle.std.proofs.Common.{◌-◌, ◌≤◌, length}
+use Rattle.std.proofs.Common.{length}
 use Rattle.three_reading.specs.Three.Channel.{on_a, on_b, on_c}
 use Rattle.lanes.specs.Lanes.{lane_in}
 use Rattle.lanes.proofs.Laying.{Laid}

@@ -1,7 +1,5 @@
 -- What a turn lays is the next place of each channel.
-use Rattle.std.proofs.Common.{◌≡◌, refl, sym, ◌∙◌, ap, List, [], ℕ, zero, suc, ◌+◌, ◌*◌, ◌/◌, ◌<◌, ◌≤◌, arith, rules, ℤ, pos, length, drop, get_or, set}
-use Rattle.std.specs.Simd.{first_chunks}
-use Rattle.three_reading.specs.declared.Three.{Three}
+use Rattle.std.proofs.Common.{◌≡◌, refl, sym, ◌∙◌, ap, List, [], ℕ, ◌+◌, ◌*◌, ◌/◌, ◌<◌, arith, rules, ℤ, length, get_or, set}
 use Rattle.three_reading.specs.Three.{triples_of, Channel, at, channel}
 use Rattle.three_reading.specs.Three.Channel.{on_a, on_b, on_c}
 use Rattle.lanes.specs.LanesLaws.{triple_at, channel-at, length-channel_of}

@@ -1,5 +1,4 @@
 -- The invariant: the first i places of each lane hold the first i samples of its channel.
-use Rattle.std.proofs.Common.{◌-◌, ◌≤◌, length}
 use Rattle.three_reading.specs.Three.{triples_of, channel}
 use Rattle.three_reading.specs.Three.Channel.{on_a, on_b, on_c}
 use Rattle.lanes.proofs.Laying.{Laid}
