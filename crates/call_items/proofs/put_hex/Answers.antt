@@ -4,8 +4,5 @@ use Rattle.call_items.proofs.Hex.{hex-one}
 use Rattle.call_items.proofs.put_hex.Goals as goal
 
 pub loop-i-preserved : goal.loop-i-preserved
-loop-i-preserved c = record {
-  inside = omega arith;
-  so_far = hex-one c.args.text.now c.args.bytes.now c.loop-i.text c.loop-i.i c.loop-i.invariant.so_far _ _ c.digit.ensures c.digit-in-loop-i.ensures
-      (omega arith) (omega arith);
-}
+loop-i-preserved c =
+    hex-one c.args.text.now c.args.bytes.now c.loop-i.text c.loop-i.i c.loop-i.invariant _ _ c.digit.ensures c.digit-in-loop-i.ensures (omega arith) (omega arith)
