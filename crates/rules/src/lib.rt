@@ -59,11 +59,12 @@ fn all_up_to<T: Place>(places: &[T], most: u32) -> bool
 }
 
 // Values or marks, up to a bound, with 0 in the places that are not used yet.
-fn places_good<T: Place>(places: &[T], most: u32, count: u64, window_length: u64) -> bool
-    requires { (window_length ≤ 120) × (length places.now ≡ 120) }
+fn places_good<T: Place>(places: &[T; 120], most: u32, count: u64, window_length: u64) -> bool
+    requires { window_length ≤ 120 }
     ensures { result ≡ passes (places_rule most window_length count (T.numbers places.now)) }
 {
     let first_unused = count.min(window_length) as usize;
+    let places = &places[..];
     all_up_to(places, most) && all_up_to(&places[first_unused..], 0)
 }
 
