@@ -7,8 +7,8 @@ use Rattle.numbers.specs.Answers.{Answered, answered}
 use Rattle.numbers.specs.Answers.Answered.{accepted, refused}
 use Rattle.numbers.specs.AnswersLaws.{accepted-is, refused-is}
 use Rattle.numbers.specs.declared.Refusal.{Refusal}
-use Rattle.numbers.specs.declared.Refusal.TheVariants.{OddSamples, Room, ReplyRoom}
-use Rattle.numbers.specs.Refusals.{number_of, number_in}
+use Rattle.numbers.specs.declared.Refusal.TheVariants.{OddSamples}
+use Rattle.numbers.specs.Refusals.{number_of}
 use Rattle.reading.specs.Told.{Told}
 use Rattle.reading.specs.Restore.{restore_refusal}
 use Rattle.reading.specs.Calls.{Outcome, Trial, without_logger, Saved, Restoration}

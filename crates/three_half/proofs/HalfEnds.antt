@@ -29,7 +29,6 @@ use Rattle.three_state.specs.declared.ThreeState.{ThreeState}
 use Rattle.three_state.specs.ThreeState.{three_with}
 use Rattle.three_state.specs.ThreeStep.{with_joints, due_on_three, with_gatherers, with_halves, values_with, values_out}
 use Rattle.three_state.specs.ThreeStep.{three_passes, three_half_due, three_half, three_why_not}
-use Rattle.three_half.specs.declared.Half.{Half}
 use Rattle.three_half.specs.Halves.{HalfReady, half_by, half_of, half_outcome, ValuesReady, values_by}
 use Rattle.three_half.specs.HalvesLaws.{sum-at}
 

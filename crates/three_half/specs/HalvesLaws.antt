@@ -10,7 +10,6 @@ use Rattle.three_reading.specs.declared.Three.{Three}
 use Rattle.three_reading.specs.Three.{Channel, at}
 use Rattle.joint.specs.declared.Joint.{Joint}
 use Rattle.joint.specs.declared.JointSums.{JointSums}
-
 use Rattle.three_half.specs.Halves.{HalfReady, SumsFit}
 
 module _ {s : Settings} {t : Scaled} {g : Three Gatherer} {j : Joint} {a : JointSums} {ws : Three (List ℕ)} {ms : List ℕ} {p : Three Part}

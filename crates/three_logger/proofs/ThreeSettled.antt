@@ -15,7 +15,7 @@ use Rattle.rvc.specs.declared.Signal.TheVariants.{Filling, Unsettled, Steady, Ch
 use Rattle.rvc.specs.Signal.{ValidSignal}
 use Rattle.rvc.specs.Phase.{phase_row, phase_mark}
 use Rattle.state.proofs.ValidSettled.{settle}
-use Rattle.three_reading.specs.Three.{at, Channel}
+use Rattle.three_reading.specs.Three.{at}
 use Rattle.three_state.specs.declared.ThreeState.{ThreeState}
 use Rattle.three_state.specs.ThreeState.{ValidThree}
 

@@ -1,9 +1,6 @@
 -- Each way out is a law of HalfEnds.
 use mathlib.Core.Path.{◌∙◌, ap}
 use Prim.Native.Nat.{ℕ}
-use native.Mathlib.Omega.{arith}
-use Rattle.rms.specs.declared.Gatherer.{Gatherer}
-use Rattle.window.specs.declared.Sums.{Sums}
 use Rattle.window.specs.Window.{pushed}
 use Rattle.feed.proofs.HalfEnds.{first-half, end-half, full-half, taken-half}
 use Rattle.feed.proofs.complete.Goals as goal

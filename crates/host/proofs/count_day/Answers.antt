@@ -1,7 +1,5 @@
 -- The count's answer, then the reply's length; each way out is a law of Answers.
 use Rattle.std.proofs.lemmas.Result.{err_from_is_err_and}
-use Rattle.numbers.specs.Answers.Answered.{accepted, refused}
-use Rattle.numbers.specs.Refusals.{number_of}
 use Rattle.host.proofs.Answers.{counts, day-refused, day-told}
 use Rattle.host.proofs.count_day.Goals as goal
 

@@ -1,9 +1,5 @@
 -- Each way out is a law of HalfEnds.
-use Rattle.std.proofs.Common.{ap, arith}
-use Rattle.three_reading.specs.Three.Channel.{on_a, on_b, on_c}
-use Rattle.joint.specs.declared.JointSums.{JointSums}
-use Rattle.joint.specs.Joint.{three_of}
-use Rattle.three_half.specs.HalvesLaws.{sums-fit}
+use Rattle.std.proofs.Common.{arith}
 use Rattle.three_half.proofs.HalfEnds.{is-false, is-true, first-half, end-half, full-half, taken-half}
 use Rattle.three_half.proofs.complete.Goals as goal
 
