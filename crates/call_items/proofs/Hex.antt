@@ -1,12 +1,12 @@
--- Text that is written from its start: one byte more in base sixteen.
+-- Text that is written from its start: one byte more in base sixteen, and all of them.
 use Rattle.std.specs.Prelude.{◌≡◌, refl, List, [], ◌∷◌, ◌++◌, ℕ, suc, ◌+◌, ◌*◌, ◌/◌, ◌%◌, ◌≤◌, ◌<◌, length, take, drop, get_or, set}
-use Rattle.std.proofs.Common.{sym, ◌∙◌, ap, ap₂, append_assoc, arith, add-one, length-append, drop-cons, take-suc, length-take-le}
+use Rattle.std.proofs.Common.{sym, ◌∙◌, ap, ap₂, append_assoc, arith, add-one, length-append, drop-cons, take-suc, take_all, length-take-le}
 use Rattle.std.proofs.lemmas.List.{set_at}
 use Rattle.std.proofs.Math.Seq.{append_snoc}
 use Rattle.call_items.specs.Items.{digit_of, hex_of}
 
 -- a list begins with p and goes on as it was: one element more
-set_next : (t₀ t p : List ℕ) (n a : ℕ) → t ≡ p ++ drop n t₀ → length p ≡ n → n < length t₀ → set t n a ≡ (p ++ (a ∷ [])) ++ drop (n + 1) t₀
+pub set_next : (t₀ t p : List ℕ) (n a : ℕ) → t ≡ p ++ drop n t₀ → length p ≡ n → n < length t₀ → set t n a ≡ (p ++ (a ∷ [])) ++ drop (n + 1) t₀
 set_next t₀ t p n a is long within =
     ap (λ (l : List ℕ). set l n a) (is ∙ ap (λ (l : List ℕ). p ++ l) (drop-cons t₀ n 0 within))
     ∙ set_at p _ _ a n long
@@ -40,3 +40,6 @@ module _ (text₀ bytes text : List ℕ) (i : ℕ) (is : HexSoFar text₀ bytes 
       let next : 2 * i + 1 + 1 ≡ 2 * (i + 1) = omega arith in
       set_next text₀ _ (p ++ (high ∷ [])) (2 * i + 1) low (set_next text₀ text p (2 * i) high is long (omega arith)) longer (omega arith)
       ∙ ap₂ (λ (l : List ℕ) (k : ℕ). l ++ drop k text₀) (append_assoc p (high ∷ []) (low ∷ []) ∙ sym both) next
+
+  pub hex-all : i ≡ length bytes → text ≡ hex_of bytes ++ drop (2 * length bytes) text₀
+  hex-all all = is ∙ ap₂ (λ (l : List ℕ) (k : ℕ). hex_of l ++ drop (2 * k) text₀) (take_all i bytes (omega arith)) all
