@@ -33,14 +33,6 @@ pub fn put_number(part: &mut [u8], x: u64)
     }
 }
 
-// Writes bytes into a part of their length.
-pub fn copy(part: &mut [u8], bytes: &[u8])
-    requires { length part.old ≡ length bytes.now }
-    ensures { part.new ≡ bytes.now }
-{
-    part.copy_from_slice(bytes);
-}
-
 // Reads a row of numbers, each of at most 8 bytes. By place: after a `zip` with what `iter_mut` lends, nothing is known of the numbers.
 pub fn get_row(bytes: &[u8], widths: &[u8], numbers: &mut [u64])
     requires { (length numbers.old ≡ length widths.now) × (length bytes.now ≡ total widths.now) × Narrow widths.now }
