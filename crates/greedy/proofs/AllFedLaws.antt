@@ -1,6 +1,6 @@
 -- The laws of `fed_all_by`: a feed with room for a few records leaves the rest of it to take, and with room for four a turn is progress; and samples come to an end,
 -- where what is left to V's end falls with each that is taken.
-use Rattle.std.specs.Prelude.{◌≡◌, ◌≢◌, Bool, ◌&&◌, ℕ, suc, ◌+◌, ◌-◌, ◌*◌, ◌≤◌, ◌<◌, drop, ℤ, if◌then◌else◌}
+use Rattle.std.specs.Prelude.{◌≡◌, ◌≢◌, Bool, ℕ, suc, ◌+◌, ◌-◌, ◌*◌, ◌≤◌, ◌<◌, drop, ℤ, if◌then◌else◌}
 use Rattle.std.proofs.Math.Path.{refl, subst⁻¹}
 use Rattle.std.proofs.Common.{sym, ◌∙◌, ap, ltb-false, eq-eqb, ne_eqb}
 use Rattle.std.proofs.Math.Bool.{true, false}
@@ -28,7 +28,7 @@ module _ {X St : Type 0} (M : Machine X St) where
   by_end st x xs e = if e then record { after = st; why = 2 } else fed_all_by M (M.next st x) xs
 
   -- what a feed that took n samples leaves to take: the others where it stopped for want of room, else none
-  abbrev rest_by : List X → St → ℕ → ℕ → AllFed St
+  abbrev pub rest_by : List X → St → ℕ → ℕ → AllFed St
   rest_by xs st n why = if why ≡ᵇ 1 then fed_all_by M st (drop n xs) else record { after = st; why = why }
 
   abbrev rest_of : List X → Run St → AllFed St

@@ -5,3 +5,4 @@ pub mod CutterLaws
 pub mod ProgressLaws
 pub mod ToldLaws
 pub mod AllFedLaws
+pub mod ChunksLaws
