@@ -66,7 +66,7 @@ fn put_column<const CAP: usize>(text: &mut ArrayString<CAP>, number: u64)
     text.push_str(digits.format(number));
 }
 
-// The name of a kind, from its number in a record.
+// The name of a kind, from its number in a record. Every other number is told as the fourth kind, as `kind_name` has it.
 #[tactic(auto, unfolding(crate::specs::Text::kind_name))]
 fn name_of(kind: u8) -> &'static str
     ensures name { result.now ≡ kind_name kind }

@@ -2,8 +2,6 @@
 use Rattle.std.specs.Prelude.{◌≡◌, refl, Bool, true, false, List, [], ◌∷◌, ℕ, ◌+◌, ◌-◌, ◌<◌, length, take, drop, ℤ, if◌then◌else◌}
 use Rattle.std.proofs.Common.{sym, ◌∙◌, ap, arith, take_all}
 use Rattle.std.proofs.Math.Path.{subst}
-use Rattle.std.proofs.Math.Bridge.{le_prop}
-use Rattle.std.proofs.Math.Logic.{∥∥₁_elim}
 use Rattle.numbers.specs.Notation.{◌<ᵇ◌}
 use Rattle.reading.specs.Told.{Told}
 use Rattle.reading.specs.Feed.{last_value}
@@ -14,10 +12,10 @@ use Rattle.detection.specs.Detection.{detector_after}
 use Rattle.greedy.proofs.CutterLaws.{sample-leaves}
 use Rattle.greedy.proofs.AllFedLaws.{Turn, turn, falls as samples-fall, left_to, InHalf, left-part, left-first, left-value}
 use Rattle.state.specs.declared.State.{State}
-use Rattle.state.specs.State.{ValidState}
 use Rattle.state.specs.Step.{with_values, with_gatherer, passes_end, half_joined, cutter, machine}
 use Rattle.state.specs.Calls.{fed_with}
 use Rattle.state.proofs.CallsLaws.{fed_with-within}
+use Rattle.state.proofs.ValidSettled.{valid-settled}
 use Rattle.logger.specs.declared.Logger.{Logger}
 use Rattle.logger.specs.Logger.{fed_to}
 use Rattle.event_log.specs.FedAll.{FedAll}
@@ -67,5 +65,5 @@ part-leaves l m xs why = subst (λ (ys : List ℤ). FedAll l ys m why) (take_all
 -- samples that are all taken lower what is left
 pub falls : (l m : Logger) (xs : List ℤ) → 0 < length xs → FedAll l xs m 0 → left m.state < left l.state
 falls l m xs some all =
-    ∥∥₁_elim l.valid le_prop
-    (λ (valid : ValidState l.state). samples-fall machine left Inside left-next xs l.state m.state (valid.settings-valid.samples-valid.1, valid.gatherer-valid.0) some all)
+    let valid = valid-settled l.state l.valid in
+    samples-fall machine left Inside left-next xs l.state m.state (valid.settings-valid.samples-valid.1, valid.gatherer-valid.0) some all

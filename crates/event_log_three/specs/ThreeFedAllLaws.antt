@@ -3,8 +3,6 @@ use Rattle.std.specs.Prelude.{◌≡◌, ◌≢◌, Bool, true, false, List, [],
 use Rattle.std.specs.Result.{result_unwrap_or}
 use Rattle.std.proofs.Common.{sym, ◌∙◌, ap, arith, take_all}
 use Rattle.std.proofs.Math.Path.{refl, subst}
-use Rattle.std.proofs.Math.Bridge.{le_prop}
-use Rattle.std.proofs.Math.Logic.{∥∥₁_elim}
 use Rattle.numbers.specs.Notation.{◌<ᵇ◌}
 use Rattle.numbers.specs.Answers.{Answered}
 use Rattle.numbers.specs.Answers.Answered.{accepted, refused}
@@ -27,13 +25,13 @@ use Rattle.three_reading.specs.ThreeCalls.{ThreeOutcome}
 use Rattle.three_laws.specs.TriplesLaws.{length-triples, triples-take, triples-drop}
 use Rattle.joint.specs.Joint.{joint_after}
 use Rattle.three_state.specs.declared.ThreeState.{ThreeState}
-use Rattle.three_state.specs.ThreeState.{ValidThree}
 use Rattle.three_state.specs.ThreeStep.{with_joints, with_gatherers, parts_of, with_halves, values_with, three_passes, three_half, three_cutter, three_machine}
 use Rattle.three_state.specs.ThreeFed.{three_fed_with}
 use Rattle.three_state.proofs.ThreeFedLaws.{three_fed_with-within}
 use Rattle.three_logger.specs.declared.ThreeLogger.{ThreeLogger}
 use Rattle.three_logger.specs.Logger.{three_fed_to, in_samples, three_fed}
 use Rattle.three_logger.proofs.FeedLaws.{feed-fed}
+use Rattle.three_logger.proofs.ThreeSettled.{three-settled}
 use Rattle.event_log_three.specs.ThreeFedAll.{ThreeFedAll}
 
 -- a turn that is told in samples
@@ -137,7 +135,6 @@ left-next st x inside = sample-leaves three_cutter st x Less (left-part m v g in
 -- triples that are all taken lower what is left
 pub falls : (l m : ThreeLogger) (xs : List ℤ) → 0 < 3 * (length xs / 3) → ThreeFedAll l xs m 0 → left m.state < left l.state
 falls l m xs some all =
-    ∥∥₁_elim l.valid le_prop
-    (λ (valid : ValidThree l.state).
+    let valid = three-settled l.state l.valid in
     samples-fall three_machine left Inside left-next (triples_of xs) l.state m.state (valid.settings-valid.samples-valid.1, (valid.gatherer-valid on_a).0)
-    (omega (arith, some, length-triples xs)) all)
+    (omega (arith, some, length-triples xs)) all

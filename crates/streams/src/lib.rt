@@ -7,7 +7,8 @@ ghost use Rattle.io.specs.Counts.{IsPrefixLen};
 use std::io::{Error, ErrorKind, Read, Write};
 use std::thread;
 
-// How many bytes were read, and why a read failed, if one did. Fewer than asked and none failed: the input has ended.
+// How many bytes were read, and why a read failed, if one did. Fewer than asked and none failed: the input has ended. No Result: what was read before a failure
+// counts, too.
 #[derive(Clone, Copy)]
 pub struct Got {
     pub count: usize,
