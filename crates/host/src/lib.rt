@@ -109,17 +109,6 @@ fn put_day(reply: &mut [u8], day: DayCount)
     );
 }
 
-// What advance and try begin with: the logger of the image, or restore's refusals; then 12 for an odd number of sample bytes.
-fn resume_for(image: &[u8], samples: &[u8]) -> Result<Logger, Refusal>
-    ensures { started_told result ≡ answered (block_refusal image.now samples.now 0) (state_at image.now) }
-{
-    let logger = Logger::resume(image)?;
-    if samples.len() % 2 != 0 {
-        return Err(Refusal::OddSamples);
-    }
-    Ok(logger)
-}
-
 fn begin(settings: &[u8], image: &mut [u8]) -> Result<(), Refusal>
     ensures { begun_to (number_in result) image.new ≡ begun settings.now image.old }
 {
@@ -137,7 +126,10 @@ fn advance(
     ensures { advanced_to (number_in result) next.new records.new reply.new
         ≡ advanced image.now samples.now next.old records.old reply.old }
 {
-    let logger = resume_for(image, samples)?;
+    let logger = Logger::resume(image)?;
+    if samples.len() % 2 != 0 {
+        return Err(Refusal::OddSamples);
+    }
     if next.len() < bodies::IMAGE_LENGTH {
         return Err(Refusal::Room);
     }
@@ -158,7 +150,10 @@ fn try_block(
     ensures { block_tried_to (number_in result) scratch.new reply.new
         ≡ block_tried image.now samples.now scratch.old reply.old }
 {
-    let logger = resume_for(image, samples)?;
+    let logger = Logger::resume(image)?;
+    if samples.len() % 2 != 0 {
+        return Err(Refusal::OddSamples);
+    }
     if reply.len() < REPLY_LENGTH {
         return Err(Refusal::ReplyRoom);
     }
