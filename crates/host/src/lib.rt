@@ -18,7 +18,7 @@ ghost use Rattle.conversion.specs.Conversion.{converted_to, records_converted, i
 ghost use Rattle.host.specs.Host.{block_refusal, begun_to, begun, replied, advanced_to, advanced, block_tried_to, block_tried, day_replied, counted_to, counted};
 
 use day_count::DayCount;
-use logger::{Fed, Logger};
+use logger::Logger;
 use numbers::Refusal;
 use reading::Told;
 use records::RECORD_LENGTH;
@@ -33,12 +33,11 @@ const DAY_REPLY_LENGTH: usize = 32;
 const CHUNK: usize = 768;
 
 // Feeds the samples that bytes are, chunk by chunk, each decoded on the stack, until one is not taken whole. The place is counted by hand as the answer tells it.
-fn feed_chunks(logger: Logger, bytes: &[u8], records: &mut [u8]) -> Fed
-    ensures { fed_to result.logger.state (told_in result.told) records.new ≡ logger_calls.feed logger.state (samples_of bytes.now) records.old }
+fn feed_chunks(logger: &mut Logger, bytes: &[u8], records: &mut [u8]) -> Told
+    ensures { fed_to logger.new.state (told_in result) records.new ≡ logger_calls.feed logger.old.state (samples_of bytes.now) records.old }
 {
     let count = bytes.len() / 2;
     let mut samples = [0i16; CHUNK];
-    let mut held = logger;
     let mut at: usize = 0;
     let mut written: usize = 0;
     while at < count {
@@ -47,29 +46,23 @@ fn feed_chunks(logger: Logger, bytes: &[u8], records: &mut [u8]) -> Fed
         let end = start + 2 * size;
         let behind = RECORD_LENGTH * written;
         samples::decode(&bytes[start..end], &mut samples[..size]);
-        let fed = held.feed(&samples[..size], &mut records[behind..]);
+        let fed = logger.feed(&samples[..size], &mut records[behind..]);
         let told = fed.told;
-        held = fed.logger;
+        *logger = fed.logger;
         written += told.written;
         if told.why.is_some() {
-            return Fed {
-                logger: held,
-                told: Told {
-                    taken: at + told.taken,
-                    written,
-                    why: told.why,
-                },
+            return Told {
+                taken: at + told.taken,
+                written,
+                why: told.why,
             };
         }
         at += size;
     }
-    Fed {
-        logger: held,
-        told: Told {
-            taken: at,
-            written,
-            why: None,
-        },
+    Told {
+        taken: at,
+        written,
+        why: None,
     }
 }
 
@@ -126,7 +119,7 @@ fn advance(
     ensures { advanced_to (number_in result) next.new records.new reply.new
         ≡ advanced image.now samples.now next.old records.old reply.old }
 {
-    let logger = Logger::resume(image)?;
+    let mut logger = Logger::resume(image)?;
     if samples.len() % 2 != 0 {
         return Err(Refusal::OddSamples);
     }
@@ -136,9 +129,9 @@ fn advance(
     if reply.len() < REPLY_LENGTH {
         return Err(Refusal::ReplyRoom);
     }
-    let fed = feed_chunks(logger, samples, records);
-    put_reply(reply, fed.told);
-    fed.logger.save(next)
+    let told = feed_chunks(&mut logger, samples, records);
+    put_reply(reply, told);
+    logger.save(next)
 }
 
 fn try_block(
@@ -150,15 +143,15 @@ fn try_block(
     ensures { block_tried_to (number_in result) scratch.new reply.new
         ≡ block_tried image.now samples.now scratch.old reply.old }
 {
-    let logger = Logger::resume(image)?;
+    let mut logger = Logger::resume(image)?;
     if samples.len() % 2 != 0 {
         return Err(Refusal::OddSamples);
     }
     if reply.len() < REPLY_LENGTH {
         return Err(Refusal::ReplyRoom);
     }
-    let fed = feed_chunks(logger, samples, scratch);
-    put_reply(reply, fed.told);
+    let told = feed_chunks(&mut logger, samples, scratch);
+    put_reply(reply, told);
     Ok(())
 }
 

@@ -32,7 +32,7 @@ returns-then-reply-lt-REPLY_LENGTH c =
 pub returns : goal.returns
 returns c =
     let a = c.args in
-    let fed = c.feed_chunks-fed in
+    let fed = c.feed_chunks-told in
     all_done a.image.now a.samples.now a.next.now a.records.now a.reply.now c.in_ok-logger.logger
     (good-resumed a.image.now a.samples.now c.in_ok-logger.logger c.in_ok-logger.ensures c.if-samples-ne0.false) (omega arith) c.if-reply-lt-REPLY_LENGTH.false
-    fed.result.logger.state (told_in fed.result.told) _ _ _ _ fed.ensures c.put_reply.ensures c.save.ensures
+    fed.new.logger.state (told_in fed.result) _ _ _ _ fed.ensures c.put_reply.ensures c.save.ensures

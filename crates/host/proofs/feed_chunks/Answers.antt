@@ -12,7 +12,7 @@ use Rattle.host.proofs.feed_chunks.Goals as goal
 pub loop-at-init : goal.loop-at-init
 loop-at-init c =
     let a = c.args in
-    (chunks_start a.logger.state a.bytes.now a.records.now (valid-settled a.logger.state a.logger.valid), refl)
+    (chunks_start a.logger.now.state a.bytes.now a.records.now (valid-settled a.logger.now.state a.logger.now.valid), refl)
 
 pub overflow_mul-behind : goal.overflow_mul-behind
 overflow_mul-behind c =

@@ -7,7 +7,7 @@ use Rattle.host.proofs.feed_chunks.Given as goal
 
 abbrev pub invariant-loop-at : goal.invariant-loop-at
 invariant-loop-at l =
-    Chunks l.initial.held.state l.bytes l.initial.records l.records l.held.state l.at l.written × (length l.samples ≡ 768)
+    Chunks l.initial.logger.state l.bytes l.initial.records l.records l.logger.state l.at l.written × (length l.samples ≡ 768)
 
 abbrev pub decreases-loop-at : goal.decreases-loop-at
 decreases-loop-at l = length l.bytes / 2 - l.at
