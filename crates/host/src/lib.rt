@@ -102,6 +102,7 @@ fn put_day(reply: &mut [u8], day: DayCount)
     );
 }
 
+// The calls, each with its answer as a `Result`; the exports below tell it as a number.
 fn begin(settings: &[u8], image: &mut [u8]) -> Result<(), Refusal>
     ensures { begun_to (number_in result) image.new ≡ begun settings.now image.old }
 {
@@ -109,6 +110,7 @@ fn begin(settings: &[u8], image: &mut [u8]) -> Result<(), Refusal>
     logger.save(image)
 }
 
+// The tests of the samples and of the reply stand here and in `try_block`: a function of them all would hand the logger on, a copy more on the stack.
 fn advance(
     image: &[u8],
     samples: &[u8],

@@ -50,7 +50,7 @@ pub fn halves_of(gatherers: Three<Gatherer>, parts: Three<Part>) -> Three<Gather
     }
 }
 
-// The values that end with the half-cycles of `halves`: a joint value is clipped if any channel's is.
+// The values that end with the half-cycles of `halves`: a joint value is clipped if any channel's is. One by one, here and below: `map` would copy each window.
 fn values_of(
     settings: Settings,
     gatherers: Three<Gatherer>,
