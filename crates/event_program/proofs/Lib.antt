@@ -1,1 +1,1 @@
-mod ChunkLaws
+pub mod ChunkLaws
