@@ -1,8 +1,8 @@
 -- A feed of the logger is a turn of `fed_all_by`, told in samples; and chunks come to an end, for what is left to V's end falls with each triple that is taken.
-use Rattle.std.specs.Prelude.{◌≡◌, ◌≢◌, Bool, true, false, List, [], ◌∷◌, ℕ, ◌+◌, ◌-◌, ◌*◌, ◌/◌, ◌%◌, ◌≤◌, ◌<◌, length, take, drop, ℤ, Result, Ok, Err, if◌then◌else◌}
+use Rattle.std.specs.Prelude.{◌≡◌, ◌≢◌, Bool, true, false, List, [], ◌∷◌, ℕ, ◌+◌, ◌-◌, ◌*◌, ◌/◌, ◌≤◌, ◌<◌, length, take, drop, ℤ, Result, Ok, Err, if◌then◌else◌}
 use Rattle.std.specs.Result.{result_unwrap_or}
 use Rattle.std.proofs.Common.{sym, ◌∙◌, ap, arith, take_all}
-use Rattle.std.proofs.Math.Path.{refl, subst}
+use Rattle.std.proofs.Math.Path.{refl}
 use Rattle.numbers.specs.Notation.{◌<ᵇ◌}
 use Rattle.numbers.specs.Answers.{Answered}
 use Rattle.numbers.specs.Answers.Answered.{accepted, refused}
@@ -16,7 +16,7 @@ use Rattle.reading.specs.Layout.{record_length}
 use Rattle.rms.specs.declared.Gatherer.{Gatherer}
 use Rattle.rms.specs.declared.Part.{Part}
 use Rattle.greedy.proofs.CutterLaws.{sample-leaves}
-use Rattle.greedy.specs.AllFed.{AllFed, fed_all_by}
+use Rattle.greedy.specs.AllFed.{fed_all_by}
 use Rattle.greedy.proofs.AllFedLaws.{Turn, turn, falls as samples-fall, left_to, InHalf, left-part, left-first, left-value}
 use Rattle.three_reading.specs.declared.Three.{Three}
 use Rattle.three_reading.specs.Three.{triples_of}
