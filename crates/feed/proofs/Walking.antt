@@ -8,17 +8,17 @@ use native.Mathlib.Omega.{arith}
 use lib.ListN.{length, take, drop, length-drop, take-append-drop}
 use lib.IntN.{ℤ}
 use borrow.Rule.Slice.PartMut.{put_mid}
-use Rattle.std.specs.Prelude.{Option, Some, None, Result, Ok, Err}
+use Rattle.std.specs.Prelude.{Result, Ok, Err}
 use Rattle.settings.specs.declared.Settings.{Settings}
 use Rattle.reading.specs.declared.Stop.{Stop}
 use Rattle.reading.specs.declared.Stop.TheVariants.{Room, End}
-use Rattle.reading.specs.Told.{stop_number, why_number, told_in}
+use Rattle.reading.specs.Told.{Told, stop_number}
 use Rattle.reading.specs.Engineer.{room}
 use Rattle.reading.specs.Layout.{record_length}
 use Rattle.rms.specs.declared.Part.{Part}
 use Rattle.rms.specs.declared.Gatherer.{Gatherer}
 use Rattle.rms.specs.declared.Share.{Share}
-use Rattle.rms.specs.Gather.{part_of, cut, PartFits}
+use Rattle.rms.specs.Gather.{part_of, with_part, cut, PartFits}
 use Rattle.rms.specs.GatherLaws.{part_of-fits}
 use Rattle.rms.specs.CutLaws.{Within, cut-within}
 use Rattle.window.specs.declared.Sums.{Sums}
@@ -34,8 +34,7 @@ use Rattle.state.proofs.StepLaws.{cuts}
 use Rattle.state.proofs.StepValid.{half_joined-valid, part_joined-valid}
 use Rattle.state.specs.Calls.{fed_with}
 use Rattle.feed.specs.declared.Half.{Half}
-use Rattle.feed.specs.declared.Walked.{Walked}
-use Rattle.feed.specs.Feed.{HalfOutcome, half_by, half_outcome, half_of, walked_of, walked_with}
+use Rattle.feed.specs.Feed.{HalfOutcome, half_by, half_outcome, half_of, fed_to, walked_with}
 
 -- a part of a block, as the code takes it
 part-of : (at n k : ℕ) (block : List ℤ) → k ≡ n → part_of (take k (drop at block)) ≡ part_of (take n (drop at block))
@@ -55,21 +54,19 @@ stop-some Room = omega arith
 stop-some End = omega arith
 
 -- what `end_walk` gives
-abbrev pub WalkEnds : Gatherer → Detector → List ℤ → ℕ → ℕ → Option Stop → Walked → Type 0
-WalkEnds g d samples taken written why last = (last ≡ walked_with g d (part_of samples) taken written why) × ((part_of samples).squares ≤ length samples * 2 ^ 30)
+abbrev pub WalkEnds : State → Gatherer → Detector → List ℤ → State → Type 0
+WalkEnds kept g d samples end = (end ≡ walked_with kept g d (part_of samples)) × ((part_of samples).squares ≤ length samples * 2 ^ 30)
 
 -- what `walk` gives
-abbrev pub WalkIs : State → List ℤ → List ℕ → Settings → List ℕ → List ℕ → Walked → List ℕ → Type 0
-WalkIs st₀ block lent s w ms last out = (walked_of s last w ms out ≡ fed_with st₀ block lent) × ValidState (state_with s last.gatherer last.detector w ms)
+abbrev pub WalkIs : State → List ℤ → List ℕ → State → Told → List ℕ → Type 0
+WalkIs st₀ block lent end told out = (fed_to end told out ≡ fed_with st₀ block lent) × ValidState end
 
--- the invariant of the walk
-module _ (s : Settings) (w₀ ms₀ : List ℕ) (block : List ℤ) (lent : List ℕ) (g₀ : Gatherer) (d₀ : Detector) where
-  abbrev first : State
-  first = state_with s g₀ d₀ w₀ ms₀
-
-  pub record Walking (w ms out : List ℕ) (g : Gatherer) (d : Detector) (sums : Sums) (at written : ℕ) (share : Share) : Type 0 where
-    pub so_far : Progress machine ValidState first block lent (state_with s g d w ms) at written out
-    pub sums-are : sums ≡ sums_of w ms
+-- the invariant of the walk: the state is kept in the gatherer and the detector that the walk goes on with, and in the other parts of the state that is lent
+module _ (s : Settings) (st₀ : State) (block : List ℤ) (lent : List ℕ) where
+  pub record Walking (kept : State) (out : List ℕ) (g : Gatherer) (d : Detector) (sums : Sums) (at written : ℕ) (share : Share) : Type 0 where
+    pub so_far : Progress machine ValidState st₀ block lent (state_with s g d kept.window kept.marks) at written out
+    pub settings-are : kept.settings ≡ s
+    pub sums-are : sums ≡ sums_of kept.window kept.marks
     pub within : Within s.samples g (drop at block) share
     pub share-is : share ≡ cut s.samples g (drop at block)
     pub long : length out ≡ length lent
@@ -78,13 +75,15 @@ module _ (s : Settings) (w₀ ms₀ : List ℕ) (block : List ℤ) (lent : List 
     pub samples-most : s.samples ≤ 256
     pub sum-le : g.sum ≤ g.count * 2 ^ 30
 
-  walking : (w ms out : List ℕ) (g : Gatherer) (d : Detector) (sums : Sums) (at written : ℕ) (share : Share) → Progress machine ValidState first block lent (state_with s g d w ms) at written out →
-      sums ≡ sums_of w ms → share ≡ cut s.samples g (drop at block) → length out ≡ length lent →
-      Walking w ms out g d sums at written share
-  walking w ms out g d sums at written share so_far sums-are share-is long =
+  walking : (kept : State) (out : List ℕ) (g : Gatherer) (d : Detector) (sums : Sums) (at written : ℕ) (share : Share) →
+      Progress machine ValidState st₀ block lent (state_with s g d kept.window kept.marks) at written out → kept.settings ≡ s →
+      sums ≡ sums_of kept.window kept.marks → share ≡ cut s.samples g (drop at block) → length out ≡ length lent →
+      Walking kept out g d sums at written share
+  walking kept out g d sums at written share so_far settings-are sums-are share-is long =
       let within : Within s.samples g (drop at block) share = rw share-is (cut-within s.samples (drop at block) g so_far.valid.gatherer-valid.0) in
       record {
         so_far = so_far;
+        settings-are = settings-are;
         sums-are = sums-are;
         within = within;
         share-is = share-is;
@@ -95,15 +94,20 @@ module _ (s : Settings) (w₀ ms₀ : List ℕ) (block : List ℤ) (lent : List 
         sum-le = so_far.valid.gatherer-valid.1.0;
       }
 
-  -- it starts
-  pub walk-starts : ValidState first → (sums : Sums) (share : Share) → sums ≡ sums_of w₀ ms₀ → share ≡ cut s.samples g₀ block → Walking w₀ ms₀ lent g₀ d₀ sums 0 0 share
-  walk-starts ok sums share sums-are share-is = walking w₀ ms₀ lent g₀ d₀ sums 0 0 share (progress-none machine first block lent ok) sums-are share-is refl
+-- it starts
+pub walk-starts : (st₀ : State) (block : List ℤ) (lent : List ℕ) → ValidState st₀ → (sums : Sums) (share : Share) → sums ≡ sums_of st₀.window st₀.marks →
+    share ≡ cut st₀.settings.samples st₀.gatherer block → Walking st₀.settings st₀ block lent st₀ lent st₀.gatherer st₀.detector sums 0 0 share
+walk-starts st₀ block lent ok sums share sums-are share-is =
+    walking st₀.settings st₀ block lent st₀ lent st₀.gatherer st₀.detector sums 0 0 share (progress-none machine st₀ block lent ok) refl sums-are share-is refl
 
 -- it turns and ends
-module _ {s : Settings} {w₀ ms₀ : List ℕ} {block : List ℤ} {lent : List ℕ} {g₀ : Gatherer} {d₀ : Detector} {w ms out : List ℕ} {g : Gatherer} {d : Detector}
-    {sums : Sums} {at written : ℕ} {share : Share} (inv : Walking s w₀ ms₀ block lent g₀ d₀ w ms out g d sums at written share) where
-  abbrev st₀ : State
-  st₀ = state_with s g₀ d₀ w₀ ms₀
+module _ {s : Settings} {st₀ : State} {block : List ℤ} {lent : List ℕ} {kept : State} {out : List ℕ} {g : Gatherer} {d : Detector}
+    {sums : Sums} {at written : ℕ} {share : Share} (inv : Walking s st₀ block lent kept out g d sums at written share) where
+  abbrev w : List ℕ
+  w = kept.window
+
+  abbrev ms : List ℕ
+  ms = kept.marks
 
   abbrev st : State
   st = state_with s g d w ms
@@ -117,18 +121,21 @@ module _ {s : Settings} {w₀ ms₀ : List ℕ} {block : List ℤ} {lent : List 
   abbrev rest : List ℤ
   rest = drop at block
 
+  -- the state that is lent, with another window
+  abbrev shifted : List ℕ → List ℕ → State
+  shifted w₁ ms₁ = state_with kept.settings kept.gatherer kept.detector w₁ ms₁
+
   -- the end of the walk, with a part that leaves the half-cycle in progress
-  walk-last : (last : Walked) (p : Part) (taken : ℕ) (why : Option Stop) (w₁ ms₁ out₁ : List ℕ) → PartFits s.samples g p → g.count + p.count < s.samples →
-      last ≡ walked_with g d p taken written why → w₁ ≡ w → ms₁ ≡ ms → (k : ℕ) → taken ≡ at + k →
-      fed_by machine st rest left ≡ record { after = part_joined st p; taken = k; records = []; why = why_number why } → out₁ ≡ take behind out ++ drop behind out →
-      WalkIs st₀ block lent s w₁ ms₁ last out₁
+  walk-last : (end : State) (p : Part) (taken why : ℕ) (out₁ : List ℕ) → PartFits s.samples g p → g.count + p.count < s.samples →
+      end ≡ walked_with kept g d p → (k : ℕ) → taken ≡ at + k →
+      fed_by machine st rest left ≡ record { after = part_joined st p; taken = k; records = []; why = why } → out₁ ≡ take behind out ++ drop behind out →
+      WalkIs st₀ block lent end (record { taken = taken; written = written; why = why }) out₁
   unfolding fed_with
-  walk-last last p taken why w₁ ms₁ out₁ fits below last-is window-is marks_are k taken_is fed bytes-are =
+  walk-last end p taken why out₁ fits below ends k taken_is fed bytes-are =
       let none : written ≡ written + 0 = omega arith in
-      let end_is : state_with s last.gatherer last.detector w₁ ms₁ ≡ part_joined st p = λ i. state_with s (last-is i).gatherer (last-is i).detector (window-is i) (marks_are i) in (
-        (λ i. record { after = end_is i; told = told_in (last-is i).told; bytes = out₁ })
-            ∙ (λ i. record { after = part_joined st p; told = record { taken = taken_is i; written = none i; why = why_number why }; bytes = out₁ })
-            ∙ progress-last inv.so_far (record { after = part_joined st p; taken = k; records = []; why = why_number why }) out₁ fed bytes-are,
+      let end_is : end ≡ part_joined st p = ends ∙ (λ i. state_with (inv.settings-are i) (with_part g p) d w ms) in (
+        (λ i. fed_to (end_is i) (record { taken = taken_is i; written = none i; why = why }) out₁)
+            ∙ progress-last inv.so_far (record { after = part_joined st p; taken = k; records = []; why = why }) out₁ fed bytes-are,
         subst ValidState (sym end_is) (part_joined-valid st p inv.so_far.valid fits below),
       )
 
@@ -198,16 +205,17 @@ module _ {s : Settings} {w₀ ms₀ : List ℕ} {block : List ℤ} {lent : List 
 
         pub walk-turns : (share₁ : Share) → share₁ ≡ cut s.samples h.gatherer (take (length block - (at + n)) (drop (at + n) block)) →
             length (back part) ≡ length out →
-            Walking s w₀ ms₀ block lent g₀ d₀ w₁ ms₁ (back part) h.gatherer h.detector h.sums (at + n) (written + h.written) share₁
+            Walking s st₀ block lent (shifted w₁ ms₁) (back part) h.gatherer h.detector h.sums (at + n) (written + h.written) share₁
         walk-turns share₁ share-is long =
-            walking s w₀ ms₀ block lent g₀ d₀ w₁ ms₁ (back part) h.gatherer h.detector h.sums (at + n) (written + h.written) share₁ next
+            walking s st₀ block lent (shifted w₁ ms₁) (back part) h.gatherer h.detector h.sums (at + n) (written + h.written) share₁ next inv.settings-are
             (ap (λ (o : HalfOutcome). o.sums) took.1 ∙ ap (λ (z : State). sums_of z.window z.marks) after_is)
             (share-is ∙ ap (cut s.samples h.gatherer) (lent-behind (at + n) block)) (long ∙ inv.long)
 
       -- it is not
-      pub walk-stops : (stop : Stop) {w₁ ms₁ part : List ℕ} → Gives (Err stop) w₁ ms₁ part → (last : Walked) →
-          WalkEnds g d (take (at + n - 1 - at) rest) (at + n - 1) written (Some stop) last → WalkIs st₀ block lent s w₁ ms₁ last (back part)
-      walk-stops stop {w₁} {ms₁} {part} is last ended =
+      pub walk-stops : (stop : Stop) {w₁ ms₁ part : List ℕ} → Gives (Err stop) w₁ ms₁ part → (end : State) →
+          WalkEnds (shifted w₁ ms₁) g d (take (at + n - 1 - at) rest) end →
+          WalkIs st₀ block lent end (record { taken = at + n - 1; written = written; why = stop_number stop }) (back part)
+      walk-stops stop {w₁} {ms₁} {part} is end ended =
           let some : 0 < stop_number stop = stop-some stop in
           let stopped = half-refused (why_not st p left) (half_of s g d sums (Err stop) w₁ ms₁ part) st p (drop behind out) (given (Err stop) w₁ ms₁ part is) some in
           let window-is : w₁ ≡ w = ap (λ (z : State). z.window) stopped.1 in
@@ -219,19 +227,19 @@ module _ {s : Settings} {w₀ ms₀ : List ℕ} {block : List ℤ} {lent : List 
           let long : length (take (n - 1) rest) ≡ n - 1 = part-long at (n - 1) block (omega (arith, inv.share_in)) in
           let below : g.count + less.count < s.samples = omega (arith, inv.within.fits) in
           let bound : less.squares ≤ less.count * 2 ^ 30 = omega (arith, ended.1, ap (λ (k : Part). k.squares) less-is, ap (λ (k : Part). k.count) less-is) in
-          walk-last last less (at + n - 1) (Some stop) w₁ ms₁ (back part) (part_of-fits s.samples g (take (n - 1) rest) bound (omega arith)) below
-          (ended.0 ∙ ap (λ (k : Part). walked_with g d k (at + n - 1) written (Some stop)) less-is) window-is marks_are
+          walk-last end less (at + n - 1) (stop_number stop) (back part) (part_of-fits s.samples g (take (n - 1) rest) bound (omega arith)) below
+          (ended.0 ∙ (λ i. state_with kept.settings (with_part g (less-is i)) d (window-is i) (marks_are i)))
           (n - 1) (omega arith) (feed-stops cuts st rest left inv.so_far.valid.gatherer-valid.0 share inv.share-is completes (stop_number stop) stopped.0 some)
           (back_is part ∙ ap (λ (l : List ℕ). take behind out ++ l) bytes-are)
 
   -- none ends
-  pub walk_ends : share.completes ≡ false → (last : Walked) → WalkEnds g d (take (length block - at) rest) (length block) written None last →
-      WalkIs st₀ block lent s w ms last out
-  walk_ends leaves last ended =
+  pub walk_ends : share.completes ≡ false → (end : State) → WalkEnds kept g d (take (length block - at) rest) end →
+      WalkIs st₀ block lent end (record { taken = length block; written = written; why = 0 }) out
+  walk_ends leaves end ended =
       let all-is : part_of (take (length block - at) rest) ≡ part_of rest = ap part_of (lent-behind at block) in
       let below : g.count + length rest < s.samples = inv.within.below leaves in
       let bound : (part_of rest).squares ≤ length rest * 2 ^ 30 = omega (arith, ended.1, ap (λ (k : Part). k.squares) all-is, ap (λ (k : Part). k.count) all-is) in
-      walk-last last (part_of rest) (length block) None w ms out (part_of-fits s.samples g rest bound (omega arith)) below
-      (ended.0 ∙ ap (λ (k : Part). walked_with g d k (length block) written None) all-is) refl refl
+      walk-last end (part_of rest) (length block) 0 out (part_of-fits s.samples g rest bound (omega arith)) below
+      (ended.0 ∙ ap (walked_with kept g d) all-is)
       (length rest) (omega (arith, length-drop at block, inv.so_far.at_in))
       (feed-rest cuts st rest left inv.so_far.valid.gatherer-valid.0 share inv.share-is leaves) (sym (take-append-drop behind out))

@@ -1,10 +1,10 @@
--- What the functions of this crate give, in the parts that the code keeps a logger's state in.
-use Rattle.std.specs.Prelude.{◌≡◌, List, ℕ, zero, suc, length, Option, Result, Ok, Err}
+-- What the functions of this crate give: of a half-cycle in the parts that the code keeps a logger's state in.
+use Rattle.std.specs.Prelude.{◌≡◌, List, ℕ, zero, suc, length, Result, Ok, Err}
 use Rattle.settings.specs.declared.Settings.{Settings}
 use Rattle.settings.specs.declared.Scaled.{Scaled}
 use Rattle.settings.specs.Settings.{scaled_of}
 use Rattle.reading.specs.declared.Stop.{Stop}
-use Rattle.reading.specs.Told.{told_in, stop_number}
+use Rattle.reading.specs.Told.{Told, stop_number}
 use Rattle.reading.specs.Calls.{Outcome}
 use Rattle.reading.specs.Records.{record_bytes}
 use Rattle.reading.specs.Engineer.{over, room}
@@ -18,7 +18,6 @@ use Rattle.state.specs.declared.State.{State}
 use Rattle.state.specs.State.{state_with, ValidState}
 use Rattle.state.specs.Step.{half_due, half_joined, why_not}
 use Rattle.feed.specs.declared.Half.{Half}
-use Rattle.feed.specs.declared.Walked.{Walked}
 
 -- a logger and a part that fits its half-cycle, and is taken as its end
 pub record HalfReady (s : Settings) (t : Scaled) (g : Gatherer) (d : Detector) (a : Sums) (w ms : List ℕ) (p : Part) : Type 0 where
@@ -54,9 +53,9 @@ abbrev pub half_of : Settings → Gatherer → Detector → Sums → Result Half
 half_of s g d sums (Ok h) w ms out = record { after = state_with s h.gatherer h.detector w ms; sums = h.sums; written = h.written; why = 0; bytes = out }
 half_of s g d sums (Err stop) w ms out = record { after = state_with s g d w ms; sums = sums; written = 0; why = stop_number stop; bytes = out }
 
--- the outcome of a walk; a walk that ends with a part
-abbrev pub walked_of : Settings → Walked → List ℕ → List ℕ → List ℕ → Outcome State
-walked_of s r w ms out = record { after = state_with s r.gatherer r.detector w ms; told = told_in r.told; bytes = out }
+-- the outcome of a walk; the state that a walk ends in, with a part
+abbrev pub fed_to : State → Told → List ℕ → Outcome State
+fed_to st told bytes = record { after = st; told = told; bytes = bytes }
 
-abbrev pub walked_with : Gatherer → Detector → Part → ℕ → ℕ → Option Stop → Walked
-walked_with g d p taken written why = record { gatherer = with_part g p; detector = d; told = record { taken = taken; written = written; why = why } }
+abbrev pub walked_with : State → Gatherer → Detector → Part → State
+walked_with st g d p = state_with st.settings (with_part g p) d st.window st.marks

@@ -2,16 +2,18 @@
 #![tactic(auto)]
 
 ghost use Rattle.std.specs.Prelude.{◌≡◌, ◌+◌, ◌*◌, ◌^◌, ◌≤◌, length};
+ghost use Rattle.reading.specs.Told.{told_in};
 ghost use Rattle.rms.specs.Gather.{part_of};
 ghost use Rattle.state.specs.State.{state_with, ValidState};
 ghost use Rattle.state.specs.Calls.{fed_with};
-ghost use Rattle.feed.specs.Feed.{HalfReady, half_of, half_outcome, walked_with, walked_of};
+ghost use Rattle.feed.specs.Feed.{HalfReady, half_of, half_outcome, walked_with, fed_to};
 
 use detection::Detector;
 use reading::{LAST_VALUE, Stop, Told};
 use records::RECORD_LENGTH;
 use rms::{Gatherer, Marked, Part};
 use settings::{Scaled, Settings};
+use state::State;
 use window::Sums;
 
 // What a half-cycle that is taken leaves of the logger beside the window, the window's sums, and how many records were written.
@@ -21,14 +23,6 @@ struct Half {
     detector: Detector,
     sums: Sums,
     written: usize,
-}
-
-// What a walk leaves of the logger beside the window, and what feed tells.
-#[derive(Clone, Copy)]
-pub struct Walked {
-    pub gatherer: Gatherer,
-    pub detector: Detector,
-    pub told: Told,
 }
 
 // A part ends the half-cycle in progress; `sums` are the window's. Nothing changes where V would pass its end or the records do not fit.
@@ -93,54 +87,30 @@ fn complete(
     })
 }
 
-// The end of a walk, with the samples that leave the half-cycle in progress.
-fn end_walk(
-    gatherer: Gatherer,
-    detector: Detector,
-    samples: &[i16],
-    taken: usize,
-    written: usize,
-    why: Option<Stop>,
-) -> Walked
+// The end of a walk: the state with the samples that leave the half-cycle in progress. Its window and marks are shifted as the walk goes.
+fn end_walk(state: &mut State, gatherer: Gatherer, detector: Detector, samples: &[i16])
     requires { (gatherer.count + length samples.now ≤ 256) × (gatherer.sum ≤ gatherer.count * 2 ^ 30) }
-    ensures { (result ≡ walked_with gatherer detector (part_of samples.now) taken written why)
-        × ((part_of samples.now).squares ≤ length samples.now * 2 ^ 30) }
+    ensures { (state.new ≡ walked_with state.old gatherer detector (part_of samples.now)) × ((part_of samples.now).squares ≤ length samples.now * 2 ^ 30) }
 {
     let part = rms::sum_squares(samples);
-    Walked {
-        gatherer: gatherer.with_part(part),
-        detector,
-        told: Told {
-            taken,
-            written,
-            why,
-        },
-    }
+    state.gatherer = gatherer.with_part(part);
+    state.detector = detector;
 }
 
 // The greatest number of the block's samples that 01 allows, and their records: half-cycle by half-cycle, as long as the block ends one and it can be taken;
 // then the samples that are left.
-pub fn walk(
-    settings: Settings,
-    gatherer: Gatherer,
-    detector: Detector,
-    window: &mut [u32; 120],
-    marks: &mut [u8; 120],
-    block: &[i16],
-    records: &mut [u8],
-) -> Walked
-    requires { ValidState (state_with settings gatherer detector window.old marks.old) }
-    ensures { (walked_of settings result window.new marks.new records.new
-        ≡ fed_with (state_with settings gatherer detector window.old marks.old) block.now records.old)
-        × ValidState (state_with settings result.gatherer result.detector window.new marks.new) }
+pub fn walk(state: &mut State, block: &[i16], records: &mut [u8]) -> Told
+    requires { ValidState state.old }
+    ensures { (fed_to state.new (told_in result) records.new ≡ fed_with state.old block.now records.old) × ValidState state.new }
 {
+    let settings = state.settings;
     let scaled = settings.scaled();
     let half_length = settings.samples;
-    let mut g = gatherer;
-    let mut d = detector;
+    let mut g = state.gatherer;
+    let mut d = state.detector;
     let mut sums = Sums {
-        values: window::sum_of(window),
-        marks: window::sum_of(marks),
+        values: window::sum_of(&state.window),
+        marks: window::sum_of(&state.marks),
     };
     let mut at: usize = 0;
     let mut written: usize = 0;
@@ -155,14 +125,19 @@ pub fn walk(
             g,
             d,
             sums,
-            window,
-            marks,
+            &mut state.window,
+            &mut state.marks,
             part,
             &mut records[behind..],
         ) {
             Err(stop) => {
                 let taken = end - 1;
-                return end_walk(g, d, &block[at..taken], taken, written, Some(stop));
+                end_walk(state, g, d, &block[at..taken]);
+                return Told {
+                    taken,
+                    written,
+                    why: Some(stop),
+                };
             }
             Ok(half) => {
                 g = half.gatherer;
@@ -174,5 +149,10 @@ pub fn walk(
             }
         }
     }
-    end_walk(g, d, &block[at..], block.len(), written, None)
+    end_walk(state, g, d, &block[at..]);
+    Told {
+        taken: block.len(),
+        written,
+        why: None,
+    }
 }

@@ -62,31 +62,11 @@ impl Logger {
     pub fn feed(self, block: &[i16], records: &mut [u8]) -> Fed
         ensures { fed_to result.logger.state (told_in result.told) records.new ≡ logger_calls.feed self.state block.now records.old }
     {
-        let settings = self.state.settings;
-        let gatherer = self.state.gatherer;
-        let detector = self.state.detector;
-        let mut window = self.state.window;
-        let mut marks = self.state.marks;
-        let walked = feed::walk(
-            settings,
-            gatherer,
-            detector,
-            &mut window,
-            &mut marks,
-            block,
-            records,
-        );
+        let mut state = self.state;
+        let told = feed::walk(&mut state, block, records);
         Fed {
-            logger: Logger {
-                state: State {
-                    settings,
-                    gatherer: walked.gatherer,
-                    detector: walked.detector,
-                    window,
-                    marks,
-                },
-            },
-            told: walked.told,
+            logger: Logger { state },
+            told,
         }
     }
 

@@ -9,13 +9,12 @@ use Rattle.feed.proofs.walk.Goals as goal
 
 pub loop-share-init : goal.loop-share-init
 loop-share-init c =
-    let a = c.args in
-    walk-starts a.settings a.window.now a.marks.now a.block.now a.records.now a.gatherer a.detector c.requires _ c.cut-share.result
+    walk-starts c.args.state.now c.args.block.now c.args.records.now c.requires _ c.cut-share.result
     (λ i. record { values = c.sum_of.ensures i; marks = c.sum_of-2.ensures i }) c.cut-share.ensures
 
 pub returns-in-Err : goal.returns-in-Err
 returns-in-Err c =
-    walk-stops c.loop-share.invariant c.loop-share-test.true c.sum_squares-part.ensures c.in-Err.stop c.in-Err.ensures c.end_walk.result c.end_walk.ensures
+    walk-stops c.loop-share.invariant c.loop-share-test.true c.sum_squares-part.ensures c.in-Err.stop c.in-Err.ensures c.end_walk.new.state c.end_walk.ensures
 
 pub overflow_add-written : goal.overflow_add-written
 overflow_add-written c =
@@ -37,4 +36,4 @@ loop-share-preserved c =
 
 pub returns : goal.returns
 returns c =
-    walk_ends c.loop-share.invariant c.loop-share-test.false c.end_walk-2.result c.end_walk-2.ensures
+    walk_ends c.loop-share.invariant c.loop-share-test.false c.end_walk-2.new.state c.end_walk-2.ensures

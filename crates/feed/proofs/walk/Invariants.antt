@@ -5,7 +5,7 @@ use Rattle.feed.proofs.Walking.{Walking}
 use Rattle.feed.proofs.walk.Given as goal
 
 abbrev pub invariant-loop-share : goal.invariant-loop-share
-invariant-loop-share l = Walking l.settings l.initial.window l.initial.marks l.block l.initial.records l.initial.g l.initial.d l.window l.marks l.records l.g l.d l.sums l.at l.written l.share
+invariant-loop-share l = Walking l.settings l.fn.state l.block l.fn.records l.state l.records l.g l.d l.sums l.at l.written l.share
 
 abbrev pub decreases-loop-share : goal.decreases-loop-share
 decreases-loop-share l = length l.block - l.at

@@ -2,5 +2,5 @@
 use Rattle.state.proofs.ValidSettled.{valid-settled}
 use Rattle.logger.proofs.Logger.feed.Goals as goal
 
-pub walk-walked-requires : goal.walk-walked-requires
-walk-walked-requires c = valid-settled c.args.self.state c.args.self.valid
+pub walk-told-requires : goal.walk-told-requires
+walk-told-requires c = valid-settled c.args.self.state c.args.self.valid
