@@ -46,9 +46,7 @@ fn feed_chunks(logger: &mut Logger, bytes: &[u8], records: &mut [u8]) -> Told
         let end = start + 2 * size;
         let behind = RECORD_LENGTH * written;
         samples::decode(&bytes[start..end], &mut samples[..size]);
-        let fed = logger.feed(&samples[..size], &mut records[behind..]);
-        let told = fed.told;
-        *logger = fed.logger;
+        let told = logger.feed_in_place(&samples[..size], &mut records[behind..]);
         written += told.written;
         if told.why.is_some() {
             return Told {

@@ -62,12 +62,16 @@ impl Logger {
     pub fn feed(self, block: &[i16], records: &mut [u8]) -> Fed
         ensures { fed_to result.logger.state (told_in result.told) records.new ≡ logger_calls.feed self.state block.now records.old }
     {
-        let mut state = self.state;
-        let told = feed::walk(&mut state, block, records);
-        Fed {
-            logger: Logger { state },
-            told,
-        }
+        let mut logger = self;
+        let told = logger.feed_in_place(block, records);
+        Fed { logger, told }
+    }
+
+    // Feed of a logger that stays where it stands, so that a caller with little stack keeps no copy of it.
+    pub fn feed_in_place(&mut self, block: &[i16], records: &mut [u8]) -> Told
+        ensures { fed_to self.new.state (told_in result) records.new ≡ logger_calls.feed self.old.state block.now records.old }
+    {
+        feed::walk(&mut self.state, block, records)
     }
 
     // What feed would tell of a block, and its records into a scratch buffer: a copy is fed, and dropped.

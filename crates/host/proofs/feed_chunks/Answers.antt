@@ -23,8 +23,8 @@ decode-requires c =
     let l = c.loop-at in
     simp (length-take, length-drop) (omega (arith, c.min-size.ensures, l.invariant.0.inside, l.invariant.1))
 
-pub slice_bounds-feed-count : goal.slice_bounds-feed-count
-slice_bounds-feed-count c =
+pub slice_bounds-feed_in_place-count : goal.slice_bounds-feed_in_place-count
+slice_bounds-feed_in_place-count c =
     omega (arith, c.loop-at.invariant.0.fits, c.loop-at.invariant.0.long)
 
 pub overflow_add-written : goal.overflow_add-written
@@ -33,7 +33,7 @@ overflow_add-written c =
     let k = c.min-size in
     let read = c.decode in
     let fits = written-fit l.invariant.0 (omega (arith, k.ensures, l.invariant.0.inside)) l.samples
-    (read.auto.places ∙ length-take-le k.result l.samples (omega (arith, k.ensures, l.invariant.1))) read.ensures (c.feed-fed.ensures, valid-settled _ c.feed-fed.result.logger.valid) in
+    (read.auto.places ∙ length-take-le k.result l.samples (omega (arith, k.ensures, l.invariant.1))) read.ensures (c.feed_in_place-told.ensures, valid-settled _ c.feed_in_place-told.new.self.valid) in
     omega (arith, fits)
 
 pub overflow_add-result : goal.overflow_add-result
@@ -42,7 +42,7 @@ overflow_add-result c =
     let k = c.min-size in
     let read = c.decode in
     let few = taken-few l.invariant.0 (omega (arith, k.ensures, l.invariant.0.inside)) l.samples
-    (read.auto.places ∙ length-take-le k.result l.samples (omega (arith, k.ensures, l.invariant.1))) read.ensures (c.feed-fed.ensures, valid-settled _ c.feed-fed.result.logger.valid) in
+    (read.auto.places ∙ length-take-le k.result l.samples (omega (arith, k.ensures, l.invariant.1))) read.ensures (c.feed_in_place-told.ensures, valid-settled _ c.feed_in_place-told.new.self.valid) in
     omega (arith, few, k.ensures, l.invariant.0.inside)
 
 pub returns-then-is_some : goal.returns-then-is_some
@@ -51,7 +51,7 @@ returns-then-is_some c =
     let k = c.min-size in
     let read = c.decode in
     chunks-stop l.invariant.0 (omega (arith, k.ensures, l.invariant.0.inside)) l.samples
-    (read.auto.places ∙ length-take-le k.result l.samples (omega (arith, k.ensures, l.invariant.1))) read.ensures (c.feed-fed.ensures, valid-settled _ c.feed-fed.result.logger.valid) (why-some _ (sym c.is_some.ensures ∙ c.if-is_some.true))
+    (read.auto.places ∙ length-take-le k.result l.samples (omega (arith, k.ensures, l.invariant.1))) read.ensures (c.feed_in_place-told.ensures, valid-settled _ c.feed_in_place-told.new.self.valid) (why-some _ (sym c.is_some.ensures ∙ c.if-is_some.true))
 
 pub overflow_add-at : goal.overflow_add-at
 overflow_add-at c =
@@ -66,10 +66,10 @@ loop-at-preserved c =
     let l = c.loop-at in
     let k = c.min-size in
     let read = c.decode in
-    let fed = c.feed-fed in
+    let fed = c.feed_in_place-told in
     let behind = record_length * l.written in (
       chunks-turn l.invariant.0 (omega (arith, k.ensures, l.invariant.0.inside)) l.samples
-          (read.auto.places ∙ length-take-le k.result l.samples (omega (arith, k.ensures, l.invariant.1))) read.ensures (c.feed-fed.ensures, valid-settled _ c.feed-fed.result.logger.valid) (why-none _ (sym c.is_some.ensures ∙ c.if-is_some.false))
+          (read.auto.places ∙ length-take-le k.result l.samples (omega (arith, k.ensures, l.invariant.1))) read.ensures (c.feed_in_place-told.ensures, valid-settled _ c.feed_in_place-told.new.self.valid) (why-none _ (sym c.is_some.ensures ∙ c.if-is_some.false))
           (same_len_mid behind (length l.records - behind) l.records fed.new.records fed.auto.records),
       length_front l.samples read.new.places k.result read.auto.places ∙ l.invariant.1,
     )
