@@ -106,6 +106,7 @@ pub fn walk(state: &mut State, block: &[i16], records: &mut [u8]) -> Told
     let settings = state.settings;
     let scaled = settings.scaled();
     let half_length = settings.samples;
+    // Each half-cycle changes these: they stand beside the state until the walk ends.
     let mut g = state.gatherer;
     let mut d = state.detector;
     let mut sums = Sums {
