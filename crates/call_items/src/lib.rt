@@ -133,10 +133,9 @@ fn make_calls<L: List>(rt: HostRuntime, mut list: L, calls: u16) {
     let mut bytes = [0u8; MOST];
     let mut space = [0u8; MOST];
     for _ in 0..calls {
-        let Some(item) = next_item(rt, &mut bytes) else {
-            return;
-        };
-        list.call(rt, item, &bytes, &mut space);
+        if let Some(item) = next_item(rt, &mut bytes) {
+            list.call(rt, item, &bytes, &mut space);
+        }
     }
 }
 

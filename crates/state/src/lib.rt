@@ -23,8 +23,8 @@ pub struct State {
 }
 
 // The sum of a window of `window_length` after `count` values, 0 while it is not full.
-pub fn full_sum(window: &[u32; 120], window_length: u64, count: u64) -> u64
-    requires { window_length ≤ 120 }
+pub fn full_sum(window: &[u32], window_length: u64, count: u64) -> u64
+    requires { (window_length ≤ length window.now) × (window_length ≤ 120) }
     ensures { result ≡ (if count <ᵇ window_length then 0 else sum_of (take window_length window.now)) }
 {
     if count < window_length {
