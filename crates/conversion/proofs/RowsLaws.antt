@@ -1,5 +1,5 @@
 -- The laws of the records in a list, over the width c of an edition's counts: the first one and those behind it, how many there are, and how long they are in
--- another edition; for a loop over them, one record more that is tested, and one more that is written; and a conversion's ways out.
+-- another edition; for a loop over them, one record more that is written; for a chain, that it goes over their numbers; and a conversion's ways out.
 use Rattle.std.specs.Prelude.{◌≡◌, refl, Bool, true, false, ◌&&◌, List, [], ◌∷◌, ◌++◌, ℕ, zero, suc, ◌+◌, ◌-◌, ◌*◌, ◌/◌, ◌%◌, ◌≤◌, ◌<◌, length, take, drop}
 use Rattle.std.proofs.Math.Path.{sym}
 use Rattle.std.proofs.Common.{◌∙◌, ap, ap₂, append_assoc, add-one, le-div_iff_mul-le, div-lt_iff_lt-mul, add_comm, mul_comm, mul-zero, mul-suc, arith, length-append, length-drop, take-append-drop, take_at, drop_at, drop-drop, length-take-le, le-leb, eq-eqb, ne_eqb}
@@ -117,7 +117,7 @@ all-put c to b w p t short so_far =
     sym (take-append-drop w p)
     ∙ (ap (λ (l : List (List ℕ)). take w p ++ over (rows_bytes to l) (drop w p)) (sym (rows_none c b short)) ∙ so_far)
 
--- the chunks of a list are its records; and a test of the numbers in each, by a chain over them
+-- the chunks of a list are its records, and a chain tests the numbers of each
 pub rows-yielded : (c : ℕ) {s : _} (b : List ℕ) → chunks_exact_rest s ≡ b → chunks_exact_size s ≡ record_length_with c
     → YieldsList chunks_exact_steps (λ x. numbers_in (record_widths_with c) x.now) s (rows_in c b)
 rows-yielded c {s} b rest size =

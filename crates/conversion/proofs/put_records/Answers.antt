@@ -4,16 +4,6 @@ use Rattle.octets.specs.Bytes.{row}
 use Rattle.conversion.proofs.RowsLaws.{length_cut, one-put, all-put}
 use Rattle.conversion.proofs.put_records.Goals as goal
 
-pub loop-record-init : goal.loop-record-init
-loop-record-init c = record {
-  can = search rules;
-  ends = search rules;
-  size = search rules;
-  long = search rules;
-  room = search rules;
-  put = search rules;
-}
-
 pub slice_bounds-put_row-end : goal.slice_bounds-put_row-end
 slice_bounds-put_row-end c =
     let i = c.loop-record.invariant in
