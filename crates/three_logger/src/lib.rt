@@ -41,13 +41,14 @@ impl ThreeLogger {
         Ok(ThreeLogger::fresh(settings))
     }
 
-    // A logger that has taken no triple, of settings that were read.
+    // A logger that has taken no triple, of settings that start accepts.
     pub fn fresh(settings: Settings) -> ThreeLogger
         requires { ValidSettings settings }
         ensures { result.state ≡ three_fresh settings }
     {
-        let state = ThreeState::fresh(settings);
-        ThreeLogger { state }
+        ThreeLogger {
+            state: ThreeState::fresh(settings),
+        }
     }
 
     // The greatest number of the block's triples that 02 allows, and their records; a block that is not a multiple of three samples is refused.
@@ -84,8 +85,7 @@ impl ThreeLogger {
             },
             answer: Ok(Told {
                 taken: 3 * told.taken,
-                written: told.written,
-                why: told.why,
+                ..told
             }),
         }
     }
