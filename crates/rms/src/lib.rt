@@ -25,10 +25,10 @@ pub struct Part {
 pub fn square(sample: i16) -> Squared
     ensures { (result ≡ squared_of sample) × (result.square ≤ 2 ^ 30) }
 {
-    let wide = sample as i32;
+    let wide = i32::from(sample);
     Squared {
         square: (wide * wide) as u32,
-        clipped: (sample == 32_767) | (sample == -32_768),
+        clipped: (sample == i16::MAX) | (sample == i16::MIN),
     }
 }
 
@@ -49,7 +49,7 @@ impl Pair {
         let a = square(left);
         let b = square(right);
         Pair {
-            squares: self.squares + (a.square + b.square) as u64,
+            squares: self.squares + u64::from(a.square + b.square),
             left: self.left | a.clipped,
             right: self.right | b.clipped,
         }
@@ -202,7 +202,8 @@ pub struct Gatherer {
     pub last_clipped: bool,
 }
 
-// How many of the samples to come belong to the half-cycle in progress, and whether the last of them ends it.
+// How many of the samples to come belong to the half-cycle in progress, and whether the last of them ends it. Both, and no `Option` of the count: `cut` of
+// rms/specs gives both, and `CutLaws` speak of the count also where no half-cycle ends.
 #[derive(Clone, Copy)]
 pub struct Share {
     pub count: usize,
@@ -292,7 +293,8 @@ impl Gatherer {
     }
 }
 
-// The gatherer is lent to a sample and updated. What comes back is whether the sample ended a half-cycle.
+// The gatherer is lent to a sample and updated. What comes back is whether the sample ended a half-cycle. Lent, over the step by value (`with_sample`), since the
+// papers name the gatherer lent to a sample.
 pub fn gather(gatherer: &mut Gatherer, half_length: u32, sample: i16) -> bool
     requires { ValidGatherer half_length gatherer.old × (half_length ≤ 256) }
     ensures { (gatherer.new ≡ (gathered half_length gatherer.old sample).gatherer)
