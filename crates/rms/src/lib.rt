@@ -129,7 +129,7 @@ fn from_table(n: u64, roots: &[u8; 256]) -> u64
     requires { (roots_from 0 roots.now ≡ true) × (n < 256) }
     ensures { result ≡ root_of n }
 {
-    roots[n as usize] as u64
+    u64::from(roots[n as usize])
 }
 
 // The root of a number from that of its quarter: twice that, or one more.
@@ -263,12 +263,10 @@ impl Gatherer {
         ensures { result ≡ with_half self part }
     {
         Gatherer {
-            count: 0,
-            sum: 0,
             last: self.sum + part.squares,
             whole: true,
-            clipped: false,
             last_clipped: self.clipped | part.clipped,
+            ..Gatherer::new()
         }
     }
 
