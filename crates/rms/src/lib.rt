@@ -98,7 +98,7 @@ pub fn sum_squares(samples: &[i16]) -> Part
         let one = square(*sample);
         part = Part {
             count: part.count + 1,
-            squares: part.squares + one.square as u64,
+            squares: part.squares + u64::from(one.square),
             clipped: part.clipped | one.clipped,
         };
     }
@@ -161,7 +161,7 @@ fn small_root(n: u64) -> u64
 pub fn root(n: u64, near: u32) -> u64
     ensures { result ≡ root_of n }
 {
-    let wide = near as u64;
+    let wide = u64::from(near);
     if n.wrapping_sub(wide * wide) <= 2 * wide {
         return wide;
     }
@@ -176,7 +176,7 @@ pub fn rms_value(half_length: u32, first: u64, second: u64, near: u32) -> u32
     requires { (0 < half_length) × (half_length ≤ 256) × (first ≤ half_length * 2 ^ 30) × (second ≤ half_length * 2 ^ 30) }
     ensures { (result ≡ rms half_length first second) × (result ≤ 524288) }
 {
-    let mean_square = 256 * (first + second) / (2 * half_length as u64);
+    let mean_square = 256 * (first + second) / (2 * u64::from(half_length));
     root(mean_square, near) as u32
 }
 
