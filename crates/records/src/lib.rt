@@ -66,7 +66,7 @@ impl Due {
         [self.dip, self.swell, self.interruption, self.change]
     }
 
-    // How many there are.
+    // How many there are. Counted in a loop: with `iter().flatten().count()` the proof did not close.
     pub fn count(self) -> usize
         ensures { result ≡ length (records_of self) }
     {

@@ -153,6 +153,7 @@ fn standing_good(start: u64, magnitude: u64, mark: u64, count: u64) -> bool
         && mark_good(start == 0, mark)
 }
 
+// By place, as the rule: a pattern of fifteen names would take a line for each.
 pub fn events_good(numbers: &[u64; 15], window_length: u64, count: u64) -> bool
     requires { window_length ≤ 120 }
     ensures { result ≡ passes (events_rule window_length count numbers.now) }
