@@ -191,24 +191,24 @@ impl Detector {
             value,
             stands,
         );
-        let joining = joined.joining;
-        let moved = self.phase_after(scaled, window_length, window, joining);
-        let phase = moved.phase;
-        let change = moved.ended;
+        let moved = self.phase_after(scaled, window_length, window, joined.joining);
         let after = Detector {
             count: i,
             dip,
             swell,
             interruption,
-            phase,
+            phase: moved.phase,
         };
         let due = Due {
             dip: self.dip.ended(Kind::Dip, i, dip),
             swell: self.swell.ended(Kind::Swell, i, swell),
             interruption: self.interruption.ended(Kind::Interruption, i, interruption),
-            change,
+            change: moved.ended,
         };
-        let sums = joined.sums;
-        Tried { after, due, sums }
+        Tried {
+            after,
+            due,
+            sums: joined.sums,
+        }
     }
 }
