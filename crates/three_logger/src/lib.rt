@@ -61,28 +61,10 @@ impl ThreeLogger {
                 answer: Err(Refusal::PartTriple),
             };
         }
-        let mut windows = self.state.windows;
-        let mut marks = self.state.marks;
-        let walked = three_feed::walk(
-            self.state.settings,
-            self.state.gatherers,
-            self.state.joint,
-            &mut windows,
-            &mut marks,
-            block,
-            records,
-        );
-        let told = walked.told;
+        let mut logger = self;
+        let told = three_feed::walk(&mut logger.state, block, records);
         ThreeFed {
-            logger: ThreeLogger {
-                state: ThreeState {
-                    settings: self.state.settings,
-                    gatherers: walked.gatherers,
-                    joint: walked.joint,
-                    windows,
-                    marks,
-                },
-            },
+            logger,
             answer: Ok(Told {
                 taken: 3 * told.taken,
                 ..told
