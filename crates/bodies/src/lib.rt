@@ -8,7 +8,7 @@ ghost use Rattle.numbers.specs.Refusals.{answer_in};
 ghost use Rattle.reading.specs.Layout.{table_length, gatherer_widths, gatherer_length, values_widths, values_length, events_widths, events_length};
 ghost use Rattle.reading.specs.Image.{table_with};
 ghost use Rattle.rms.specs.Gather.{gatherer_row};
-ghost use Rattle.bodies.specs.Bodies.{phase_numbers, detector_row, phase_of_number, standing_with, table_answer, gatherer_answer, window_answer, detector_answer};
+ghost use Rattle.bodies.specs.Bodies.{phase_numbers, detector_row, phase_of_number, standing_with, detector_from, table_answer, gatherer_answer, window_answer, detector_answer};
 
 use detection::Detector;
 use numbers::Refusal;
@@ -65,7 +65,6 @@ pub fn put_table(part: &mut [u8], count_width: u64)
     ensures { part.new ≡ table_with count_width }
 {
     let values_length = count_width + PLACES_LENGTH as u64;
-    let widths = TABLE_WIDTHS;
     let numbers = [
         1,
         SETTINGS_AT as u64,
@@ -80,7 +79,7 @@ pub fn put_table(part: &mut [u8], count_width: u64)
         VALUES_AT as u64 + values_length,
         5 * count_width + 10 * 4,
     ];
-    octets::put_row(part, &widths, &numbers);
+    octets::put_row(part, &TABLE_WIDTHS, &numbers);
 }
 
 pub fn read_table(part: &[u8], count_width: u64) -> Result<(), Refusal>
@@ -101,7 +100,6 @@ pub fn put_gatherer(part: &mut [u8], gatherer: Gatherer)
     requires { length part.old ≡ gatherer_length }
     ensures { part.new ≡ row gatherer_widths (gatherer_row gatherer) }
 {
-    let widths = GATHERER_WIDTHS;
     let numbers = [
         u64::from(gatherer.count),
         gatherer.sum,
@@ -110,7 +108,7 @@ pub fn put_gatherer(part: &mut [u8], gatherer: Gatherer)
         u64::from(gatherer.clipped),
         u64::from(gatherer.last_clipped),
     ];
-    octets::put_row(part, &widths, &numbers);
+    octets::put_row(part, &GATHERER_WIDTHS, &numbers);
 }
 
 #[tactic(auto, unfolding(crate::specs::Bodies::gatherer_answer))]
@@ -118,23 +116,23 @@ pub fn read_gatherer(part: &[u8], settings: Settings) -> Result<Gatherer, Refusa
     requires { length part.now ≡ gatherer_length }
     ensures { answer_in result ≡ gatherer_answer settings part.now }
 {
-    let widths = GATHERER_WIDTHS;
     let mut numbers = [0u64; 6];
-    octets::get_row(part, &widths, &mut numbers);
+    octets::get_row(part, &GATHERER_WIDTHS, &mut numbers);
     if !rules::gatherer_good(settings.samples, &numbers) {
         return Err(Refusal::ImageBody);
     }
+    let [count, sum, last, whole, clipped, last_clipped] = numbers;
     Ok(Gatherer {
-        count: numbers[0] as u32,
-        sum: numbers[1],
-        last: numbers[2],
-        whole: numbers[3] == 1,
-        clipped: numbers[4] == 1,
-        last_clipped: numbers[5] == 1,
+        count: count as u32,
+        sum,
+        last,
+        whole: whole == 1,
+        clipped: clipped == 1,
+        last_clipped: last_clipped == 1,
     })
 }
 
-// Body 3.
+// Body 3: V, the places of the values, and those of their marks.
 pub fn put_values(part: &mut [u8], count: u64, window: &[u32; 120], marks: &[u8; 120])
     requires { length part.old ≡ values_length }
     ensures { part.new ≡ row values_widths (count ∷ (window.now ++ marks.now)) }
@@ -144,7 +142,7 @@ pub fn put_values(part: &mut [u8], count: u64, window: &[u32; 120], marks: &[u8;
     part[MARKS_AT..VALUES_LENGTH].copy_from_slice(marks);
 }
 
-// `whole` is the gatherer's, of the body before.
+// Body 3; `whole` is the gatherer's, of the body before.
 pub fn read_window(part: &[u8], settings: Settings, whole: bool) -> Result<WindowRead, Refusal>
     requires { length part.now ≡ values_length }
     ensures { answer_in result ≡ window_answer settings whole part.now }
@@ -164,8 +162,7 @@ pub fn read_window(part: &[u8], settings: Settings, whole: bool) -> Result<Windo
     })
 }
 
-// Body 4.
-// The phase's number, a change's four, and its mark; zeros outside a change.
+// Of body 4: the phase's number, a change's four, and its mark; zeros outside a change.
 fn numbers_of(phase: Phase) -> [u64; 6]
     ensures { result ≡ phase_numbers phase }
 {
@@ -184,21 +181,24 @@ fn numbers_of(phase: Phase) -> [u64; 6]
     }
 }
 
+// Body 4.
 pub fn put_detector(part: &mut [u8], detector: Detector)
     requires { length part.old ≡ events_length }
     ensures { part.new ≡ row events_widths (detector_row detector) }
 {
-    let phase = numbers_of(detector.phase);
-    let dip = detector.dip;
-    let swell = detector.swell;
-    let interruption = detector.interruption;
-    let widths = EVENTS_WIDTHS;
+    let Detector {
+        dip,
+        swell,
+        interruption,
+        ..
+    } = detector;
+    let [phase, start, sum, difference, stand, mark] = numbers_of(detector.phase);
     let numbers = [
-        phase[0],
-        phase[1],
-        phase[2],
-        phase[3],
-        phase[4],
+        phase,
+        start,
+        sum,
+        difference,
+        stand,
         dip.start,
         dip.magnitude,
         swell.start,
@@ -208,9 +208,9 @@ pub fn put_detector(part: &mut [u8], detector: Detector)
         u64::from(dip.clipped),
         u64::from(swell.clipped),
         u64::from(interruption.clipped),
-        phase[5],
+        mark,
     ];
-    octets::put_row(part, &widths, &numbers);
+    octets::put_row(part, &EVENTS_WIDTHS, &numbers);
 }
 
 // A number of 8 bytes from its two words, the lower one first.
@@ -269,6 +269,48 @@ fn standing(start: u64, magnitude: u64, mark: u64) -> Standing
     }
 }
 
+// The detector of the numbers of body 4.
+fn detector_of(numbers: [u64; 15], count: u64) -> Detector
+    ensures { result ≡ detector_from count numbers }
+{
+    let [
+        phase,
+        start,
+        sum,
+        difference,
+        stand,
+        dip_start,
+        dip_magnitude,
+        swell_start,
+        swell_magnitude,
+        interruption_start,
+        interruption_magnitude,
+        dip_mark,
+        swell_mark,
+        interruption_mark,
+        mark,
+    ] = numbers;
+    let change = Change {
+        start,
+        sum,
+        difference,
+        stand,
+        clipped: mark == 1,
+    };
+    Detector {
+        count,
+        dip: standing(dip_start, dip_magnitude, dip_mark),
+        swell: standing(swell_start, swell_magnitude, swell_mark),
+        interruption: standing(
+            interruption_start,
+            interruption_magnitude,
+            interruption_mark,
+        ),
+        phase: phase_of(phase, change),
+    }
+}
+
+// Body 4.
 pub fn read_detector(part: &[u8], settings: Settings, count: u64) -> Result<Detector, Refusal>
     requires { length part.now ≡ events_length }
     ensures { answer_in result ≡ detector_answer settings count part.now }
@@ -277,18 +319,5 @@ pub fn read_detector(part: &[u8], settings: Settings, count: u64) -> Result<Dete
     if !rules::events_good(&numbers, settings.window_length(), count) {
         return Err(Refusal::ImageBody);
     }
-    let change = Change {
-        start: numbers[1],
-        sum: numbers[2],
-        difference: numbers[3],
-        stand: numbers[4],
-        clipped: numbers[14] == 1,
-    };
-    Ok(Detector {
-        count,
-        dip: standing(numbers[5], numbers[6], numbers[11]),
-        swell: standing(numbers[7], numbers[8], numbers[12]),
-        interruption: standing(numbers[9], numbers[10], numbers[13]),
-        phase: phase_of(numbers[0], change),
-    })
+    Ok(detector_of(numbers, count))
 }

@@ -1,5 +1,5 @@
-// What the programs that make lists of calls share: the items of standard input, the lists and their calls, and the lines that answers are printed in. No
-// contract can say what is read or written.
+// What the programs that make lists of calls share: the items of standard input, the lists and their calls, and the lines that answers are printed in;
+// `image_vectors` prints by it too. No contract can say what is read or written.
 //
 // An item is 6 bytes, and then as many bytes as they say.
 //   1 byte   the kind
@@ -189,10 +189,14 @@ pub fn print_number(rt: HostRuntime, word: &str, number: u32) {
 
 // Prints what feed tells, or a trial: a word and three numbers.
 pub fn print_told(rt: HostRuntime, word: &str, told: Told) {
-    let why = told.why_number();
     print(
         rt,
-        format_args!("{word} {} {} {why}", told.taken, told.written),
+        format_args!(
+            "{word} {} {} {}",
+            told.taken,
+            told.written,
+            told.why_number()
+        ),
     );
 }
 
@@ -204,11 +208,16 @@ pub fn print_standing(
     swell: bool,
     interruption: bool,
 ) {
-    let phase = phase.number();
-    let dip = u8::from(dip);
-    let swell = u8::from(swell);
-    let interruption = u8::from(interruption);
-    print(rt, format_args!(" {phase} {dip} {swell} {interruption}\n"));
+    print(
+        rt,
+        format_args!(
+            " {} {} {} {}\n",
+            phase.number(),
+            u8::from(dip),
+            u8::from(swell),
+            u8::from(interruption)
+        ),
+    );
 }
 
 // A digit in base sixteen. `char::from_digit` would be no plainer: it gives an `Option<char>`, to be taken apart and cast.

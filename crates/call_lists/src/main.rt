@@ -117,10 +117,13 @@ impl Calls {
 
     fn look(&self, rt: HostRuntime) {
         let readings = self.logger.look();
-        let count = readings.count;
-        let value = readings.value;
-        let sum = readings.sum;
-        call_items::print(rt, format_args!("look {count} {value} {sum}"));
+        call_items::print(
+            rt,
+            format_args!(
+                "look {} {} {}",
+                readings.count, readings.value, readings.sum
+            ),
+        );
         call_items::print_standing(
             rt,
             readings.phase,
@@ -169,7 +172,7 @@ fn gather_samples(half_length: u32, samples: &[i16]) -> Counted
     Counted { gatherer, halves }
 }
 
-// A fresh gatherer, with the parts that the cut gives, as feed takes them.
+// A fresh gatherer, with the parts that the cut gives, as feed takes them: the cut tells whether there is one more.
 fn gather_parts(half_length: u32, samples: &[i16]) -> Counted
     requires { (0 < half_length) × (half_length ≤ 256) }
 {
@@ -199,13 +202,15 @@ fn print_counted(rt: HostRuntime, word: &str, counted: Counted) {
         clipped,
         last_clipped,
     } = counted.gatherer;
-    let halves = counted.halves;
-    let whole = u8::from(whole);
-    let clipped = u8::from(clipped);
-    let last_clipped = u8::from(last_clipped);
     call_items::print(
         rt,
-        format_args!("{word} {count} {sum} {last} {whole} {clipped} {last_clipped} {halves}\n"),
+        format_args!(
+            "{word} {count} {sum} {last} {} {} {} {}\n",
+            u8::from(whole),
+            u8::from(clipped),
+            u8::from(last_clipped),
+            counted.halves,
+        ),
     );
 }
 

@@ -68,10 +68,10 @@ impl Calls {
 }
 
 fn print_channel(rt: HostRuntime, readings: ChannelReadings) {
-    let count = readings.count;
-    let value = readings.value;
-    let sum = readings.sum;
-    call_items::print(rt, format_args!(" {count} {value} {sum}"));
+    call_items::print(
+        rt,
+        format_args!(" {} {} {}", readings.count, readings.value, readings.sum),
+    );
 }
 
 fn main(rt: HostRuntime) {

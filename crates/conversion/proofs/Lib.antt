@@ -1,4 +1,5 @@
 pub mod RowsLaws
+pub mod PlacesLaws
 pub mod RecordsLaws
 pub mod ImageConvertedLaws
 pub mod PromisesProof

@@ -1,20 +1,23 @@
 -- The laws of the records in a list, over the width c of an edition's counts: the first one and those behind it, how many there are, and how long they are in
--- another edition; for a loop over them, one record more that is tested, and one more that is written; and a conversion's ways out.
+-- another edition; for a loop over them, one record more that is written; for a chain, that it goes over their numbers; and a conversion's ways out.
 use Rattle.std.specs.Prelude.{◌≡◌, refl, Bool, true, false, ◌&&◌, List, [], ◌∷◌, ◌++◌, ℕ, zero, suc, ◌+◌, ◌-◌, ◌*◌, ◌/◌, ◌%◌, ◌≤◌, ◌<◌, length, take, drop}
 use Rattle.std.proofs.Math.Path.{sym}
-use Rattle.std.proofs.Common.{◌∙◌, ap, ap₂, append_assoc, add-one, le-div_iff_mul-le, div-lt_iff_lt-mul, add_comm, mul_comm, mul-zero, mul-suc, arith, length-append, length-take, length-drop, take-append-drop, take_at, drop_at, drop-drop, length-take-le, le-leb, eq-eqb, ne_eqb}
-use Rattle.std.proofs.Math.Bool.{and_assoc, and-true}
+use Rattle.std.proofs.Common.{◌∙◌, ap, ap₂, append_assoc, add-one, le-div_iff_mul-le, div-lt_iff_lt-mul, add_comm, mul_comm, mul-zero, mul-suc, arith, length-append, length-drop, take-append-drop, take_at, drop_at, drop-drop, length-take-le, le-leb, eq-eqb, ne_eqb}
+use mathlib.Core.Path.{subst}
 use Rattle.std.proofs.Math.Nat.{div-eq-sub-div, div-eq_of_lt, add-sub_cancel_left}
 use borrow.Rule.Slice.PartMut.{put_mid}
 use Rattle.std.proofs.lemmas.Bool.{lt-leb}
-use Rattle.octets.specs.Bytes.{row, numbers_in, total, Narrow}
+use Rattle.std.specs.List.{list_all}
+use Rattle.std.specs.Slice.Iter.{chunks_exact_rest, chunks_exact_size, chunks_exact_steps}
+use Rattle.std.proofs.lemmas.Iterator.{YieldsList}
+use Rattle.std.proofs.lemmas.Iterator.Splits.{YieldsList-from_shown_while}
+use Rattle.octets.specs.Bytes.{row, numbers_in}
 use Rattle.octets.specs.RowLaws.{length-row}
 use Rattle.numbers.specs.Notation.{◌≤ᵇ◌, ◌≡ᵇ◌, refuse◌unless◌then◌}
 use Rattle.reading.specs.Layout.{record_widths_with, record_length_with}
 use Rattle.reading.specs.Engineer.{over}
 use Rattle.conversion.specs.Conversion.{converted_to, converted_by, fits, first_rows, rows_in, rows_bytes, all_rows, good_row, records_as}
 use Rattle.conversion.specs.Conversion.{records_converted}
-use Rattle.conversion.specs.WidthsLaws.{narrow-record}
 
 -- a record is not empty
 pub length-positive : (c : ℕ) → 0 < record_length_with c
@@ -78,63 +81,60 @@ module _ (w m : ℕ) (p y rest : List ℕ) (within : w ≤ length p) (long : len
       ∙ ((λ i. take_at front behind-y (w + m) front_long i ++ over rest (drop_at front behind-y (w + m) front_long i))
       ∙ ((λ i. front ++ (rest ++ further i)) ∙ simp append_assoc))
 
--- the first record of what is left of a list, and the rest
-module _ (c n : ℕ) (b : List ℕ) (n-is : n ≡ record_length_with c) where
-  -- what reading it requires, and gives
-  module _ (ws : List ℕ) (ws-are : ws ≡ record_widths_with c) where
-    pub row-asked : c ≤ 8 → n ≤ length b → (7 ≡ length ws) × (length (take n b) ≡ total ws) × Narrow ws
-    row-asked narrow h =
-        rw ws-are (refl, simp length-take (omega arith), narrow-record c narrow)
+-- a list whose first record is x
+module _ (c : ℕ) (b x after : List ℕ) (are : b ≡ x ++ after) (long : length x ≡ record_length_with c) where
+  pub rows_cut : rows_in c b ≡ numbers_in (record_widths_with c) x ∷ rows_in c after
+  rows_cut =
+      ap (rows_in c) are
+      ∙ (rows_next c (x ++ after) (omega (arith, length-append x after))
+      ∙ (λ i. numbers_in (record_widths_with c) (take_at x after (record_length_with c) long i) ∷ rows_in c (drop_at x after (record_length_with c) long i)))
 
-    pub row_read : (ns : List ℕ) → ns ≡ numbers_in ws (take n b) → ns ≡ first_row c b
-    row_read ns is = is ∙ ap₂ (λ (l : List ℕ) (k : ℕ). numbers_in l (take k b)) ws-are n-is
-
-  rows_cut : n ≤ length b → rows_in c b ≡ first_row c b ∷ rows_in c (drop n b)
-  rows_cut h = rows_next c b (omega arith) ∙ ap (λ (k : ℕ). first_row c b ∷ rows_in c (drop k b)) (sym n-is)
-
-  rows_end : length b < n → rows_in c b ≡ []
-  rows_end h = rows_none c b (omega arith)
-
-  -- a flag of the records before, with the test of those that are left, is the test of all
-  module _ (test : List ℕ → Bool) (flag whole : Bool) (so_far : (flag && all_rows test (rows_in c b)) ≡ whole) where
-    pub all_more : n ≤ length b → (passed : Bool) → passed ≡ test (first_row c b) → (flag && passed && all_rows test (rows_in c (drop n b))) ≡ whole
-    all_more h passed is =
-        let rest = all_rows test (rows_in c (drop n b)) in
-        and_assoc flag passed rest
-        ∙ (ap (λ (p : Bool). flag && (p && rest)) is ∙ (ap (λ (l : List (List ℕ)). flag && all_rows test l) (sym (rows_cut h)) ∙ so_far))
-
-    pub all_tested : length b < n → flag ≡ whole
-    all_tested h = sym (and-true flag) ∙ (ap (λ (l : List (List ℕ)). flag && all_rows test l) (sym (rows_end h)) ∙ so_far)
-
-  -- the records that are left in another edition, m bytes for the first
-  module _ (to m : ℕ) (m-is : m ≡ record_length_with to) where
+  -- the list in another edition
+  module _ (to : ℕ) where
     abbrev pub first_bytes : List ℕ
-    first_bytes = row (record_widths_with to) (first_row c b)
+    first_bytes = row (record_widths_with to) (numbers_in (record_widths_with c) x)
 
-    length-first : length first_bytes ≡ m
-    length-first = length-row (record_widths_with to) (first_row c b) refl ∙ sym m-is
+    length-first : length first_bytes ≡ record_length_with to
+    length-first = length-row (record_widths_with to) (numbers_in (record_widths_with c) x) refl
 
-    bytes_cut : n ≤ length b → records_as c to b ≡ first_bytes ++ records_as c to (drop n b)
-    bytes_cut h = ap (rows_bytes to) (rows_cut h)
+    bytes_cut : records_as c to b ≡ first_bytes ++ records_as c to after
+    bytes_cut = ap (rows_bytes to) rows_cut
 
-    pub length_cut : n ≤ length b → length (records_as c to b) ≡ m + length (records_as c to (drop n b))
-    length_cut h =
-        let rest = records_as c to (drop n b) in
-        ap length (bytes_cut h) ∙ (length-append first_bytes rest ∙ ap (λ (k : ℕ). k + length rest) length-first)
+    pub length_cut : length (records_as c to b) ≡ record_length_with to + length (records_as c to after)
+    length_cut = ap length bytes_cut ∙ (length-append first_bytes (records_as c to after) ∙ ap (λ (k : ℕ). k + length (records_as c to after)) length-first)
 
-    -- what stands in p before w, with those records written behind it, is t
-    module _ (w : ℕ) (p t : List ℕ) (so_far : take w p ++ over (records_as c to b) (drop w p) ≡ t) where
-      pub one-put : n ≤ length b → w ≤ length p → (y : List ℕ) → y ≡ first_bytes
-          → take (w + m) (written w m p y) ++ over (records_as c to (drop n b)) (drop (w + m) (written w m p y)) ≡ t
-      one-put h within y is =
-          let rest = records_as c to (drop n b) in
-          write-next w m p y rest within (ap length is ∙ length-first)
-          ∙ ((λ i. take w p ++ over (is i ++ rest) (drop w p)) ∙ (ap (λ (r : List ℕ). take w p ++ over r (drop w p)) (sym (bytes_cut h)) ∙ so_far))
+    -- what stands in p before w, with the list written behind it, is t: the first record is written, m bytes long
+    pub one-put : (m w : ℕ) (p t y : List ℕ) → m ≡ record_length_with to → take w p ++ over (records_as c to b) (drop w p) ≡ t → w ≤ length p → y ≡ first_bytes
+        → take (w + m) (written w m p y) ++ over (records_as c to after) (drop (w + m) (written w m p y)) ≡ t
+    one-put m w p t y m-is so_far within is =
+        let rest = records_as c to after in
+        write-next w m p y rest within (ap length is ∙ (length-first ∙ sym m-is))
+        ∙ ((λ i. take w p ++ over (is i ++ rest) (drop w p)) ∙ (ap (λ (r : List ℕ). take w p ++ over r (drop w p)) (sym bytes_cut) ∙ so_far))
 
-      pub all-put : length b < n → p ≡ t
-      all-put h =
-          sym (take-append-drop w p)
-          ∙ (ap (λ (l : List (List ℕ)). take w p ++ over (rows_bytes to l) (drop w p)) (sym (rows_end h)) ∙ so_far)
+-- and where no record is left, all is written
+pub all-put : (c to : ℕ) (b : List ℕ) (w : ℕ) (p t : List ℕ) → length b < record_length_with c → take w p ++ over (records_as c to b) (drop w p) ≡ t → p ≡ t
+all-put c to b w p t short so_far =
+    sym (take-append-drop w p)
+    ∙ (ap (λ (l : List (List ℕ)). take w p ++ over (rows_bytes to l) (drop w p)) (sym (rows_none c b short)) ∙ so_far)
+
+-- the chunks of a list are its records, and a chain tests the numbers of each
+pub rows-yielded : (c : ℕ) {s : _} (b : List ℕ) → chunks_exact_rest s ≡ b → chunks_exact_size s ≡ record_length_with c
+    → YieldsList chunks_exact_steps (λ x. numbers_in (record_widths_with c) x.now) s (rows_in c b)
+rows-yielded c {s} b rest size =
+    subst (λ (l : List ℕ). YieldsList chunks_exact_steps (λ x. numbers_in (record_widths_with c) x.now) s (rows_in c l)) rest
+    (YieldsList-from_shown_while
+    chunks_exact_steps
+    (λ x. numbers_in (record_widths_with c) x.now)
+    (λ t. rows_in c (chunks_exact_rest t))
+    (λ t. chunks_exact_size t ≡ record_length_with c)
+    (λ t u sized h. ap length (rows_none c (chunks_exact_rest t) (omega (arith, h.1.0))))
+    (λ t x u sized h. (h.0 ∙ sized, rows_cut c (chunks_exact_rest t) x.now (chunks_exact_rest u) h.1.0 (h.1.1 ∙ sized)))
+    s
+    size)
+
+pub all-listed : (test : List ℕ → Bool) (rows : List (List ℕ)) → list_all test rows ≡ all_rows test rows
+all-listed test [] = refl
+all-listed test (ns ∷ rest) = ap (λ (b : Bool). test ns && b) (all-listed test rest)
 
 -- the ways out of a conversion by its tests, in their order; n and m are the lengths of a record in the two editions
 module _ (from to n m : ℕ) (b lent : List ℕ) (n-is : n ≡ record_length_with from) (m-is : m ≡ record_length_with to) where

@@ -30,13 +30,6 @@ struct Edition {
     ghost narrow: { width ≤ 8 },
 }
 
-// Of records: whether each is one, and whether the other edition's widths hold its numbers.
-#[derive(Clone, Copy)]
-struct Tested {
-    good: bool,
-    fit: bool,
-}
-
 impl Edition {
     const EARLIER: Edition = Edition {
         width: EARLIER_WIDTH,
@@ -55,6 +48,17 @@ impl Edition {
         ensures { (result ≡ record_length_with self.width) × (12 ≤ result) × (result ≤ 28) }
     {
         12 + 2 * self.width
+    }
+
+    // The numbers of a record.
+    fn read(self, bytes: &[u8]) -> [u64; 7]
+        requires { length bytes.now ≡ record_length_with self.width }
+        ensures { result ≡ numbers_in (record_widths_with self.width) bytes.now }
+    {
+        let widths = self.record_widths();
+        let mut numbers = [0u64; 7];
+        octets::get_row(bytes, &widths, &mut numbers);
+        numbers
     }
 
     fn events_widths(self) -> [u8; 15]
@@ -78,11 +82,10 @@ fn holds(width: u8, number: u64) -> bool
 fn row_fits(widths: &[u8; 7], numbers: &[u64; 7]) -> bool
     ensures { result ≡ fits widths.now numbers.now }
 {
-    let mut fit = true;
-    for (k, width) in widths.iter().enumerate() {
-        fit = fit & holds(*width, numbers[k]);
-    }
-    fit
+    widths
+        .iter()
+        .zip(numbers)
+        .all(|(width, number)| holds(*width, *number))
 }
 
 // Kind 1 to 4, mark 0 or 1, two zero bytes.
@@ -93,46 +96,39 @@ fn row_good(numbers: &[u64; 7]) -> bool
     1 <= kind && kind <= 4 && mark <= 1 && zeros == 0
 }
 
-// Tests the whole records of a list; what is behind them is passed over.
-fn test_records(list: &[u8], from: Edition, to: Edition) -> Tested
-    ensures { (result.good ≡ all_rows good_row (rows_in from.width list.now))
-        × (result.fit ≡ all_rows (fits (record_widths_with to.width)) (rows_in from.width list.now)) }
+// Whether each whole record of a list is one; what is behind them is passed over.
+fn all_good(list: &[u8], from: Edition) -> bool
+    ensures { result ≡ all_rows good_row (rows_in from.width list.now) }
 {
-    let widths = from.record_widths();
-    let others = to.record_widths();
-    let length = from.record_length();
-    let mut good = true;
-    let mut fit = true;
-    let mut rest = list;
-    while length <= rest.len() {
-        let (record, behind) = rest.split_at(length);
-        let mut numbers = [0u64; 7];
-        octets::get_row(record, &widths, &mut numbers);
-        good = good & row_good(&numbers);
-        fit = fit & row_fits(&others, &numbers);
-        rest = behind;
-    }
-    Tested { good, fit }
+    list.chunks_exact(from.record_length())
+        .all(|record| row_good(&from.read(record)))
 }
 
-// Writes the whole records of a list with the other edition's widths at the front of the output. By place there, where a record has another length.
+// Whether the other edition's widths hold the numbers of each of them.
+fn all_fit(list: &[u8], from: Edition, to: Edition) -> bool
+    ensures { result ≡ all_rows (fits (record_widths_with to.width)) (rows_in from.width list.now) }
+{
+    let others = to.record_widths();
+    list.chunks_exact(from.record_length())
+        .all(|record| row_fits(&others, &from.read(record)))
+}
+
+// Writes the whole records of a list with the other edition's widths at the front of the output. By place there: after a `zip` with what `chunks_exact_mut` lends,
+// nothing is known of the output.
 fn put_records(list: &[u8], from: Edition, output: &mut [u8], to: Edition)
     requires { length (records_as from.width to.width list.now) ≤ length output.old }
     ensures { output.new ≡ over (records_as from.width to.width list.now) output.old }
 {
-    let widths = from.record_widths();
     let others = to.record_widths();
-    let length = from.record_length();
     let other_length = to.record_length();
-    let mut rest = list;
     let mut written: usize = 0;
-    while length <= rest.len() {
-        let (record, behind) = rest.split_at(length);
+    for record in list.chunks_exact(from.record_length()) {
         let written_end = written + other_length;
-        let mut numbers = [0u64; 7];
-        octets::get_row(record, &widths, &mut numbers);
-        octets::put_row(&mut output[written..written_end], &others, &numbers);
-        rest = behind;
+        octets::put_row(
+            &mut output[written..written_end],
+            &others,
+            &from.read(record),
+        );
         written = written_end;
     }
 }
@@ -145,11 +141,10 @@ fn records_to(list: &[u8], from: Edition, output: &mut [u8], to: Edition) -> Res
     if list.len() % length != 0 {
         return Err(Refusal::NotConvertible);
     }
-    let tested = test_records(list, from, to);
-    if !tested.good {
+    if !all_good(list, from) {
         return Err(Refusal::NotConvertible);
     }
-    if !tested.fit {
+    if !all_fit(list, from, to) {
         return Err(Refusal::CountTooGreat);
     }
     if output.len() / to.record_length() < list.len() / length {

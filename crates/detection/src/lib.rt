@@ -150,10 +150,10 @@ impl Detector {
         requires { Joins scaled window_length joining self.phase }
         ensures { result ≡ moved_on scaled window_length (staying window_length self.count window.now) joining self.phase }
     {
-        let phase = self.phase;
         let first = first_staying(self.count, window_length);
         let end = first + (window_length as usize - 1);
-        phase.step(scaled, window_length, &window[first..end], joining)
+        self.phase
+            .step(scaled, window_length, &window[first..end], joining)
     }
 
     // One more value, worked out from the window before it, so that nothing has to be undone where its records do not fit. `scaled` is that of the settings, which
@@ -191,24 +191,24 @@ impl Detector {
             value,
             stands,
         );
-        let joining = joined.joining;
-        let moved = self.phase_after(scaled, window_length, window, joining);
-        let phase = moved.phase;
-        let change = moved.ended;
+        let moved = self.phase_after(scaled, window_length, window, joined.joining);
         let after = Detector {
             count: i,
             dip,
             swell,
             interruption,
-            phase,
+            phase: moved.phase,
         };
         let due = Due {
             dip: self.dip.ended(Kind::Dip, i, dip),
             swell: self.swell.ended(Kind::Swell, i, swell),
             interruption: self.interruption.ended(Kind::Interruption, i, interruption),
-            change,
+            change: moved.ended,
         };
-        let sums = joined.sums;
-        Tried { after, due, sums }
+        Tried {
+            after,
+            due,
+            sums: joined.sums,
+        }
     }
 }

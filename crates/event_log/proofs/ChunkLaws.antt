@@ -1,5 +1,5 @@
 -- A feed of the samples from a place on, and a chunk's bytes: laws that follow from those of a turn and of samples that are all taken.
-use Rattle.std.specs.Prelude.{◌≡◌, Bool, true, ◌&&◌, List, ℕ, ◌+◌, ◌-◌, ◌<◌, length, take, drop, ℤ}
+use Rattle.std.specs.Prelude.{◌≡◌, Bool, true, false, ◌&&◌, List, ℕ, ◌+◌, ◌-◌, ◌<◌, length, take, drop, ℤ}
 use Rattle.std.proofs.Common.{refl, ◌∙◌, ap, arith}
 use Rattle.numbers.specs.Notation.{◌≡ᵇ◌}
 use Rattle.reading.specs.Told.{Told}
@@ -32,5 +32,10 @@ left_of l = left l.state
 -- a chunk's bytes
 pub bytes-fall : (l : Logger) (bytes : List ℕ) (good : Bool) (got : ℕ) (m : Logger) (why : ℕ) (more : Bool) → length bytes ≡ got
     → FedAll l (samples_of bytes) m why → more ≡ (good && got ≡ᵇ 8192 && why ≡ᵇ 0) → left_while left more m.state < left_while left true l.state
-bytes-fall l bytes good got m why more long is more-is =
-    chunk-falls FedAll samples_whole left_of falls l m bytes got 8192 4096 why good more true refl long (omega arith) (omega arith) is more-is
+bytes-fall l bytes good got m why more long is more-is = go more refl
+  where
+    go : (b : Bool) → more ≡ b → left_while left b m.state < left_while left true l.state
+    go false e = omega arith
+    go true e =
+        let less : left m.state < left l.state = chunk-falls FedAll samples_whole left_of falls l m bytes got 8192 4096 why good more long (omega arith) (omega arith) is more-is e in
+        omega (arith, less)

@@ -107,5 +107,10 @@ left_of l = left l.state
 -- a chunk's bytes
 pub bytes-fall : (l : ThreeLogger) (bytes : List ℕ) (good : Bool) (got : ℕ) (m : ThreeLogger) (why : ℕ) (more : Bool) → length bytes ≡ got
     → ThreeFedAll l (samples_of bytes) m why → more ≡ (good && got ≡ᵇ 24576 && why ≡ᵇ 0) → left_while left more m.state < left_while left true l.state
-bytes-fall l bytes good got m why more long is more-is =
-    chunk-falls ThreeFedAll triples_whole left_of falls l m bytes got 24576 12288 why good more true refl long (omega arith) (omega arith) is more-is
+bytes-fall l bytes good got m why more long is more-is = go more refl
+  where
+    go : (b : Bool) → more ≡ b → left_while left b m.state < left_while left true l.state
+    go false e = omega arith
+    go true e =
+        let less : left m.state < left l.state = chunk-falls ThreeFedAll triples_whole left_of falls l m bytes got 24576 12288 why good more long (omega arith) (omega arith) is more-is e in
+        omega (arith, less)

@@ -127,20 +127,21 @@ fn log<L: EventLogger>(console: Console, settings: Settings, bytes: &mut [u8], p
     requires settings { ValidSettings settings }
     requires chunk { (length bytes.old ≡ 2 * length places.old) × (0 < L.whole_of (length places.old)) }
 {
-    let mut good = console.print_heading();
+    if !console.print_heading() {
+        return;
+    }
     let mut logger = L::fresh(settings);
-    let mut why = None;
-    let mut more = good;
-    while more {
+    loop {
         let got = console.read(bytes);
         let turn = feed_chunk(console, logger, &bytes[..got.count], places);
         logger = turn.logger;
-        why = turn.why;
-        good = turn.printed && got.failed.is_none();
-        more = event_lines::goes_on(good, got.count, bytes.len(), why);
-    }
-    if good {
-        console.finish(logger.ending(why));
+        let good = turn.printed && got.failed.is_none();
+        if !event_lines::goes_on(good, got.count, bytes.len(), turn.why) {
+            if good {
+                console.finish(logger.ending(turn.why));
+            }
+            return;
+        }
     }
 }
 

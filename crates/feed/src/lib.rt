@@ -25,7 +25,8 @@ struct Half {
     written: usize,
 }
 
-// A part ends the half-cycle in progress; `sums` are the window's. Nothing changes where V would pass its end or the records do not fit.
+// A part ends the half-cycle in progress; `sums` are the window's. Nothing changes where V would pass its end or the records do not fit. The logger's parts come one by
+// one: the walk keeps them as locals, and the window and marks are written in place. A shorter function would take the same parts again.
 fn complete(
     settings: Settings,
     scaled: Scaled,
@@ -62,8 +63,7 @@ fn complete(
         clipped: gatherer.last_clipped | half.last_clipped,
     };
     let tried = detector.try_value(settings, scaled, window, marks, sums, value);
-    let due = tried.due;
-    let written = due.count();
+    let written = tried.due.count();
     if records.len() / RECORD_LENGTH < written {
         return Err(Stop::Room);
     }
@@ -76,13 +76,11 @@ fn complete(
         sums.marks,
         u8::from(value.clipped),
     );
-    due.put(records);
-    let after = tried.after;
-    let sums_after = tried.sums;
+    tried.due.put(records);
     Ok(Half {
         gatherer: half,
-        detector: after,
-        sums: sums_after,
+        detector: tried.after,
+        sums: tried.sums,
         written,
     })
 }
@@ -98,7 +96,7 @@ fn end_walk(state: &mut State, gatherer: Gatherer, detector: Detector, samples: 
 }
 
 // The greatest number of the block's samples that 01 allows, and their records: half-cycle by half-cycle, as long as the block ends one and it can be taken;
-// then the samples that are left.
+// then the samples that are left. Longer than the others: the loop's parts are locals, so that they stay in registers.
 pub fn walk(state: &mut State, block: &[i16], records: &mut [u8]) -> Told
     requires { ValidState state.old }
     ensures { (fed_to state.new (told_in result) records.new ≡ fed_with state.old block.now records.old) × ValidState state.new }

@@ -32,7 +32,8 @@ const DAY_REPLY_LENGTH: usize = 32;
 // How many samples are decoded at a time.
 const CHUNK: usize = 768;
 
-// Feeds the samples that bytes are, chunk by chunk, each decoded on the stack, until one is not taken whole. The place is counted by hand as the answer tells it.
+// Feeds the samples that bytes are, chunk by chunk, each decoded on the stack, until one is not taken whole. Where the records of a chunk begin, and how many samples
+// were taken, only the answer of the feed before tells: so the places go on with it, and no iterator's do.
 fn feed_chunks(logger: &mut Logger, bytes: &[u8], records: &mut [u8]) -> Told
     ensures { fed_to logger.new.state (told_in result) records.new ≡ logger_calls.feed logger.old.state (samples_of bytes.now) records.old }
 {

@@ -5,7 +5,9 @@ ghost use Rattle.std.specs.Prelude.{◌≡◌};
 ghost use Rattle.numbers.specs.Refusals.{number_in, answer_in};
 ghost use Rattle.image.specs.Image.{save_answer, saved_bytes, state_read, restored_to, restored_by};
 
-use bodies::{COUNT_WIDTH, EVENTS_AT, GATHERER_AT, IMAGE_LENGTH, SETTINGS_AT, VALUES_AT};
+use bodies::{
+    COUNT_WIDTH, EVENTS_AT, GATHERER_AT, IMAGE_LENGTH, SETTINGS_AT, VALUES_AT, WindowRead,
+};
 use numbers::Refusal;
 use settings::Settings;
 use state::State;
@@ -24,19 +26,16 @@ pub fn save(state: State, image: &mut [u8]) -> Result<(), Refusal>
     if image.len() < IMAGE_LENGTH {
         return Err(Refusal::Room);
     }
-    let settings = state.settings;
-    let gatherer = state.gatherer;
-    let detector = state.detector;
     bodies::put_table(&mut image[0..SETTINGS_AT], COUNT_WIDTH as u64);
-    settings.write(&mut image[SETTINGS_AT..GATHERER_AT]);
-    bodies::put_gatherer(&mut image[GATHERER_AT..VALUES_AT], gatherer);
+    state.settings.write(&mut image[SETTINGS_AT..GATHERER_AT]);
+    bodies::put_gatherer(&mut image[GATHERER_AT..VALUES_AT], state.gatherer);
     bodies::put_values(
         &mut image[VALUES_AT..EVENTS_AT],
-        detector.count,
+        state.detector.count,
         &state.window,
         &state.marks,
     );
-    bodies::put_detector(&mut image[EVENTS_AT..IMAGE_LENGTH], detector);
+    bodies::put_detector(&mut image[EVENTS_AT..IMAGE_LENGTH], state.detector);
     Ok(())
 }
 
@@ -52,10 +51,12 @@ pub fn read(bytes: &[u8]) -> Result<State, Refusal>
         return Err(Refusal::ImageSettings);
     };
     let gatherer = bodies::read_gatherer(&bytes[GATHERER_AT..VALUES_AT], settings)?;
-    let values = bodies::read_window(&bytes[VALUES_AT..EVENTS_AT], settings, gatherer.whole)?;
-    let detector = bodies::read_detector(&bytes[EVENTS_AT..IMAGE_LENGTH], settings, values.count)?;
-    let window = values.window;
-    let marks = values.marks;
+    let WindowRead {
+        count,
+        window,
+        marks,
+    } = bodies::read_window(&bytes[VALUES_AT..EVENTS_AT], settings, gatherer.whole)?;
+    let detector = bodies::read_detector(&bytes[EVENTS_AT..IMAGE_LENGTH], settings, count)?;
     Ok(State {
         settings,
         gatherer,

@@ -17,6 +17,14 @@ const VECTOR: usize = 14;
 
 const CHANGES_AT: usize = 6;
 
+// A width from this on keeps the change for the next vector, and asks for no number yet.
+const KEPT: usize = 128;
+
+// How many bytes change is told by the width's remainder by this, which 128 more leave as it is; by one more than the most, it never passes the vector's end.
+const WIDTHS: usize = 16;
+
+const WIDEST: usize = VECTOR - CHANGES_AT;
+
 // The vectors that are tried, at most.
 const VECTORS: u32 = 100_000;
 
@@ -64,9 +72,9 @@ fn try_vector(
     let length = usize::from(octets::get_u16(vector, 0));
     let offset = usize::from(octets::get_u16(vector, 2));
     let width = usize::from(octets::get_u16(vector, 4));
-    let end = CHANGES_AT + width % 16 % 9;
+    let end = CHANGES_AT + width % WIDTHS % (WIDEST + 1);
     change(image, offset, &vector[CHANGES_AT..end]);
-    if width < 128 {
+    if width < KEPT {
         let number = refusal_of(image, length);
         call_items::print(rt, format_args!("{number}\n"));
         change(image, 0, good);

@@ -22,7 +22,7 @@ pub fn get_u16(bytes: &[u8], offset: usize) -> u16
     u16::from_le_bytes([bytes[offset], bytes[offset + 1]])
 }
 
-// Writes a number into a part, as many of its bytes as the part has.
+// Writes a number into a part, as many of its bytes as the part has. Byte by byte: `to_le_bytes` gives 8, and the clause takes a part of any length.
 pub fn put_number(part: &mut [u8], x: u64)
     ensures { part.new ≡ bytes_of (length part.old) x }
 {
@@ -52,9 +52,9 @@ pub fn put_row(part: &mut [u8], widths: &[u8], numbers: &[u64])
     ensures { part.new ≡ row widths.now numbers.now }
 {
     let mut at: usize = 0;
-    for (k, width) in widths.iter().enumerate() {
+    for (width, number) in widths.iter().zip(numbers) {
         let end = at + usize::from(*width);
-        put_number(&mut part[at..end], numbers[k]);
+        put_number(&mut part[at..end], *number);
         at = end;
     }
 }

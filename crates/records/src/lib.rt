@@ -48,12 +48,13 @@ pub fn get_record(bytes: &[u8]) -> Event
 {
     let mut numbers = [0u64; 7];
     octets::get_row(bytes, &WIDTHS, &mut numbers);
+    let [kind, _, _, start, duration, first, second] = numbers;
     Event {
-        kind: numbers[0] as u8,
-        start: numbers[3],
-        duration: numbers[4],
-        first: numbers[5],
-        second: numbers[6],
+        kind: kind as u8,
+        start,
+        duration,
+        first,
+        second,
     }
 }
 
@@ -65,7 +66,7 @@ impl Due {
         [self.dip, self.swell, self.interruption, self.change]
     }
 
-    // How many there are.
+    // How many there are. Counted in a loop: with `iter().flatten().count()` the proof did not close.
     pub fn count(self) -> usize
         ensures { result ≡ length (records_of self) }
     {

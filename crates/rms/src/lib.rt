@@ -25,10 +25,10 @@ pub struct Part {
 pub fn square(sample: i16) -> Squared
     ensures { (result ≡ squared_of sample) × (result.square ≤ 2 ^ 30) }
 {
-    let wide = sample as i32;
+    let wide = i32::from(sample);
     Squared {
         square: (wide * wide) as u32,
-        clipped: (sample == 32_767) | (sample == -32_768),
+        clipped: (sample == i16::MAX) | (sample == i16::MIN),
     }
 }
 
@@ -49,7 +49,7 @@ impl Pair {
         let a = square(left);
         let b = square(right);
         Pair {
-            squares: self.squares + (a.square + b.square) as u64,
+            squares: self.squares + u64::from(a.square + b.square),
             left: self.left | a.clipped,
             right: self.right | b.clipped,
         }
@@ -98,7 +98,7 @@ pub fn sum_squares(samples: &[i16]) -> Part
         let one = square(*sample);
         part = Part {
             count: part.count + 1,
-            squares: part.squares + one.square as u64,
+            squares: part.squares + u64::from(one.square),
             clipped: part.clipped | one.clipped,
         };
     }
@@ -129,7 +129,7 @@ fn from_table(n: u64, roots: &[u8; 256]) -> u64
     requires { (roots_from 0 roots.now ≡ true) × (n < 256) }
     ensures { result ≡ root_of n }
 {
-    roots[n as usize] as u64
+    u64::from(roots[n as usize])
 }
 
 // The root of a number from that of its quarter: twice that, or one more.
@@ -161,7 +161,7 @@ fn small_root(n: u64) -> u64
 pub fn root(n: u64, near: u32) -> u64
     ensures { result ≡ root_of n }
 {
-    let wide = near as u64;
+    let wide = u64::from(near);
     if n.wrapping_sub(wide * wide) <= 2 * wide {
         return wide;
     }
@@ -176,7 +176,7 @@ pub fn rms_value(half_length: u32, first: u64, second: u64, near: u32) -> u32
     requires { (0 < half_length) × (half_length ≤ 256) × (first ≤ half_length * 2 ^ 30) × (second ≤ half_length * 2 ^ 30) }
     ensures { (result ≡ rms half_length first second) × (result ≤ 524288) }
 {
-    let mean_square = 256 * (first + second) / (2 * half_length as u64);
+    let mean_square = 256 * (first + second) / (2 * u64::from(half_length));
     root(mean_square, near) as u32
 }
 
@@ -202,7 +202,8 @@ pub struct Gatherer {
     pub last_clipped: bool,
 }
 
-// How many of the samples to come belong to the half-cycle in progress, and whether the last of them ends it.
+// How many of the samples to come belong to the half-cycle in progress, and whether the last of them ends it. Both, and no `Option` of the count: `cut` of
+// rms/specs gives both, and `CutLaws` speak of the count also where no half-cycle ends.
 #[derive(Clone, Copy)]
 pub struct Share {
     pub count: usize,
@@ -262,12 +263,10 @@ impl Gatherer {
         ensures { result ≡ with_half self part }
     {
         Gatherer {
-            count: 0,
-            sum: 0,
             last: self.sum + part.squares,
             whole: true,
-            clipped: false,
             last_clipped: self.clipped | part.clipped,
+            ..Gatherer::new()
         }
     }
 
@@ -292,7 +291,8 @@ impl Gatherer {
     }
 }
 
-// The gatherer is lent to a sample and updated. What comes back is whether the sample ended a half-cycle.
+// The gatherer is lent to a sample and updated. What comes back is whether the sample ended a half-cycle. Lent, over the step by value (`with_sample`), since the
+// papers name the gatherer lent to a sample.
 pub fn gather(gatherer: &mut Gatherer, half_length: u32, sample: i16) -> bool
     requires { ValidGatherer half_length gatherer.old × (half_length ≤ 256) }
     ensures { (gatherer.new ≡ (gathered half_length gatherer.old sample).gatherer)

@@ -11,8 +11,8 @@ ghost use Rattle.reading.specs.Restore.{standing_rule, events_rule};
 use reading::LAST_VALUE;
 use window::Place;
 
-// The greatest square of a sample, 2^30.
-const SQUARE_MOST: u64 = 1_073_741_824;
+// The greatest square of a sample.
+const SQUARE_MOST: u64 = 1 << 30;
 
 // The greatest value.
 const VALUE_MOST: u64 = 524_288;
@@ -58,7 +58,8 @@ fn all_up_to<T: Place>(places: &[T], most: u32) -> bool
     !above
 }
 
-// Values or marks, up to a bound, with 0 in the places that are not used yet.
+// Values or marks, up to a bound, with 0 in the places that are not used yet. Here and below the window's length is a plain number, and each function says that
+// it is at most 120: each rule has it as a number, and a type of its own would put a field's name into each.
 fn places_good<T: Place>(places: &[T; 120], most: u32, count: u64, window_length: u64) -> bool
     requires { window_length ≤ 120 }
     ensures { result ≡ passes (places_rule most window_length count (T.numbers places.now)) }
@@ -133,8 +134,9 @@ fn phase_good(numbers: &[u64; 15], mark: u64, window_length: u64, count: u64) ->
     requires { window_length ≤ 120 }
     ensures { result ≡ passes (phase_rule window_length count numbers.now mark) }
 {
-    let change = [numbers[1], numbers[2], numbers[3], numbers[4]];
-    match numbers[0] {
+    let [phase, start, sum, difference, stand, ..] = *numbers;
+    let change = [start, sum, difference, stand];
+    match phase {
         0 => count < window_length && change_zero(&change, mark),
         1 | 2 => window_length <= count && change_zero(&change, mark),
         3 => window_length <= count && change_good(&change, mark, window_length, count),
@@ -151,6 +153,7 @@ fn standing_good(start: u64, magnitude: u64, mark: u64, count: u64) -> bool
         && mark_good(start == 0, mark)
 }
 
+// By place, as the rule: a pattern of fifteen names would take a line for each.
 pub fn events_good(numbers: &[u64; 15], window_length: u64, count: u64) -> bool
     requires { window_length ≤ 120 }
     ensures { result ≡ passes (events_rule window_length count numbers.now) }

@@ -10,7 +10,8 @@ ghost use Rattle.settings.specs.Settings.{samples_rule, frequency_rule, declared
 
 use numbers::Refusal;
 
-// In 01's order: M, F, U, T, H, I, D, W, G.
+// In 01's order: M, F, U, T, H, I, D, W, G. No invariant says that they are in range: `unchecked` makes settings from any bytes, and the state that a restore
+// finds may hold any (`image_vectors` gives zeros).
 #[derive(Clone, Copy)]
 pub struct Settings {
     // Samples in a half-cycle.
@@ -136,10 +137,10 @@ impl Settings {
     fn threshold(self, begins: u32, ends: u32) -> Threshold
         ensures { (result.begins ≡ begins * self.declared) × (result.ends ≡ ends * self.declared) }
     {
-        let declared = self.declared as u64;
+        let declared = u64::from(self.declared);
         Threshold {
-            begins: begins as u64 * declared,
-            ends: ends as u64 * declared,
+            begins: u64::from(begins) * declared,
+            ends: u64::from(ends) * declared,
         }
     }
 
@@ -148,7 +149,7 @@ impl Settings {
         requires { Holds (declared_rule self) }
         ensures { result ≡ limit * window_length_of self * self.declared / 10000 }
     {
-        limit as u64 * self.window_length() * self.declared as u64 / 10_000
+        u64::from(limit) * self.window_length() * u64::from(self.declared) / 10_000
     }
 
     // The settings that bytes are, in range or not.
@@ -158,16 +159,27 @@ impl Settings {
     {
         let mut numbers = [0u32; 9];
         octets::get_words(bytes, &mut numbers);
+        let [
+            samples,
+            frequency,
+            declared,
+            limit,
+            reduction,
+            interruption,
+            dip,
+            swell,
+            hysteresis,
+        ] = numbers;
         Settings {
-            samples: numbers[0],
-            frequency: numbers[1],
-            declared: numbers[2],
-            limit: numbers[3],
-            reduction: numbers[4],
-            interruption: numbers[5],
-            dip: numbers[6],
-            swell: numbers[7],
-            hysteresis: numbers[8],
+            samples,
+            frequency,
+            declared,
+            limit,
+            reduction,
+            interruption,
+            dip,
+            swell,
+            hysteresis,
         }
     }
 
@@ -234,8 +246,9 @@ impl Settings {
     fn order_good(self) -> bool
         ensures { result ≡ passes (order_rule self) }
     {
-        let hysteresis = self.hysteresis as u64;
-        let dip = self.dip as u64;
-        self.interruption as u64 + hysteresis <= dip && dip + 2 * hysteresis < self.swell as u64
+        let hysteresis = u64::from(self.hysteresis);
+        let dip = u64::from(self.dip);
+        u64::from(self.interruption) + hysteresis <= dip
+            && dip + 2 * hysteresis < u64::from(self.swell)
     }
 }

@@ -13,6 +13,8 @@ use reading::Readings;
 use rms::Gatherer;
 use settings::Settings;
 
+// No invariant holds of the type: `image::restore` hands back the old state as it was, whatever it is. The window and its marks are two arrays: each runs in lanes of
+// its own, and an image has one behind the other.
 #[derive(Clone, Copy)]
 pub struct State {
     pub settings: Settings,

@@ -1,12 +1,12 @@
 -- The walk through a block of triples: its invariant, which starts, turns and ends.
-use Rattle.std.proofs.Common.{◌≡◌, refl, sym, ◌∙◌, ap, subst, true, false, List, [], ◌++◌, ℕ, zero, suc, ◌+◌, ◌-◌, ◌*◌, ◌/◌, ◌%◌, ◌≤◌, ◌<◌, arith, length, take, drop, length-drop, take-append-drop, ℤ, Option, Some, None, Result, Ok, Err}
+use Rattle.std.proofs.Common.{◌≡◌, refl, sym, ◌∙◌, ap, subst, true, false, List, [], ◌++◌, ℕ, zero, suc, ◌+◌, ◌-◌, ◌*◌, ◌/◌, ◌%◌, ◌≤◌, ◌<◌, arith, length, take, drop, length-drop, take-append-drop, ℤ, Result, Ok, Err}
 use borrow.Rule.Slice.PartMut.{put_mid, same_len_mid}
 use Rattle.settings.specs.declared.Settings.{Settings}
 use Rattle.settings.specs.declared.Scaled.{Scaled}
 use Rattle.settings.specs.Settings.{scaled_of}
 use Rattle.reading.specs.declared.Stop.{Stop}
 use Rattle.reading.specs.declared.Stop.TheVariants.{Room, End}
-use Rattle.reading.specs.Told.{stop_number, why_number, told_in}
+use Rattle.reading.specs.Told.{Told, stop_number}
 use Rattle.reading.specs.Engineer.{room}
 use Rattle.reading.specs.Layout.{record_length}
 use Rattle.rms.specs.declared.Share.{Share}
@@ -27,15 +27,14 @@ use Rattle.rms.specs.declared.Gatherer.{Gatherer}
 use Rattle.rms.specs.declared.Part.{Part}
 use Rattle.three_state.specs.declared.ThreeState.{ThreeState}
 use Rattle.three_state.specs.ThreeState.{three_with, ValidThree}
-use Rattle.three_state.specs.ThreeStep.{parts_of, with_halves, three_passes, three_half_due, three_half, three_part, three_why_not, three_machine}
+use Rattle.three_state.specs.ThreeStep.{parts_of, with_parts, with_halves, three_passes, three_half_due, three_half, three_part, three_why_not, three_machine}
 use Rattle.three_state.proofs.ThreeStepLaws.{three_cuts}
 use Rattle.three_state.specs.ThreeStepValid.{three_part-valid, three_half-valid}
 use Rattle.three_state.specs.ThreeFed.{three_fed_with}
 use Rattle.lanes.specs.Lanes.{SquaresFit, PartsAre}
 use Rattle.three_half.specs.declared.Half.{Half}
 use Rattle.three_half.specs.Halves.{HalfReady, HalfOutcome, half_by, half_outcome, half_of}
-use Rattle.three_feed.specs.declared.ThreeWalked.{ThreeWalked}
-use Rattle.three_feed.specs.Feed.{walked_of, walked_with, RoomFor}
+use Rattle.three_feed.specs.Feed.{fed_to, walked_with, RoomFor}
 use Rattle.three_feed.proofs.EachPart.{count_at, parts-fit}
 
 -- the triples of a part of a block, as the code takes it: up to triple e, and all behind triple a
@@ -65,11 +64,11 @@ stop-some End = omega arith
 abbrev CutIs : Settings → Three Gatherer → List (Three ℤ) → Share → Type 0
 CutIs s g xs share = share ≡ cut s.samples g.a (channel on_a xs)
 
-abbrev WalkEnds : Three Gatherer → Joint → List (Three ℤ) → ℕ → ℕ → Option Stop → ThreeWalked → Type 0
-WalkEnds g j xs taken written why last = (last ≡ walked_with g j xs taken written why) × SquaresFit xs
+abbrev WalkEnds : ThreeState → Three Gatherer → Joint → List (Three ℤ) → ThreeState → Type 0
+WalkEnds kept g j xs end = (end ≡ walked_with kept g j xs) × SquaresFit xs
 
-abbrev WalkIs : ThreeState → List (Three ℤ) → List ℕ → Settings → Three (List ℕ) → List ℕ → ThreeWalked → List ℕ → Type 0
-WalkIs st₀ xs lent s ws ms last out = (walked_of s last ws ms out ≡ three_fed_with st₀ xs lent) × ValidThree (three_with s last.gatherers last.joint ws ms)
+abbrev WalkIs : ThreeState → List (Three ℤ) → List ℕ → ThreeState → Told → List ℕ → Type 0
+WalkIs st₀ xs lent end told out = (fed_to end told out ≡ three_fed_with st₀ xs lent) × ValidThree end
 
 abbrev LanesLong : Three (List ℤ) → Type 0
 LanesLong lanes = (c : Channel) → length (at c lanes) ≡ 256
@@ -79,18 +78,16 @@ three-long lanes p q r on_a = p
 three-long lanes p q r on_b = q
 three-long lanes p q r on_c = r
 
--- the invariant of the walk
-module _ (s : Settings) (ws₀ : Three (List ℕ)) (ms₀ : List ℕ) (block : List ℤ) (lent : List ℕ) (g₀ : Three Gatherer) (j₀ : Joint) where
-  abbrev first : ThreeState
-  first = three_with s g₀ j₀ ws₀ ms₀
-
+-- the invariant of the walk: the state is kept in the gatherers and the joint part that the walk goes on with, and in the other parts of the state that is lent
+module _ (s : Settings) (st₀ : ThreeState) (block : List ℤ) (lent : List ℕ) where
   abbrev all : List (Three ℤ)
   all = triples_of block
 
-  pub record Walking (ws : Three (List ℕ)) (ms out : List ℕ) (lanes : Three (List ℤ)) (g : Three Gatherer) (j : Joint) (sums : JointSums) (from written : ℕ)
+  pub record Walking (kept : ThreeState) (out : List ℕ) (lanes : Three (List ℤ)) (g : Three Gatherer) (j : Joint) (sums : JointSums) (from written : ℕ)
       (share : Share) : Type 0 where
-    pub so_far : Progress three_machine ValidThree first all lent (three_with s g j ws ms) from written out
-    pub sums-are : sums ≡ joint_sums_of ws ms
+    pub so_far : Progress three_machine ValidThree st₀ all lent (three_with s g j kept.windows kept.marks) from written out
+    pub settings-are : kept.settings ≡ s
+    pub sums-are : sums ≡ joint_sums_of kept.windows kept.marks
     pub within : Within s.samples g.a (channel on_a (drop from all)) share
     pub cut-is : CutIs s g (drop from all) share
     pub lanes-long : LanesLong lanes
@@ -101,17 +98,18 @@ module _ (s : Settings) (ws₀ : Three (List ℕ)) (ms₀ : List ℕ) (block : L
     pub share-most : share.count ≤ 256
     pub samples-most : s.samples ≤ 256
 
-  walking : (ws : Three (List ℕ)) (ms out : List ℕ) (lanes : Three (List ℤ)) (g : Three Gatherer) (j : Joint) (sums : JointSums) (from written : ℕ) (share : Share) →
-      Progress three_machine ValidThree first all lent (three_with s g j ws ms) from written out → sums ≡ joint_sums_of ws ms →
-      CutIs s g (drop from all) share → LanesLong lanes → length out ≡ length lent → length block % 3 ≡ 0 →
-      Walking ws ms out lanes g j sums from written share
-  walking ws ms out lanes g j sums from written share so_far sums-are cut-is lanes-long long whole =
+  walking : (kept : ThreeState) (out : List ℕ) (lanes : Three (List ℤ)) (g : Three Gatherer) (j : Joint) (sums : JointSums) (from written : ℕ) (share : Share) →
+      Progress three_machine ValidThree st₀ all lent (three_with s g j kept.windows kept.marks) from written out → kept.settings ≡ s →
+      sums ≡ joint_sums_of kept.windows kept.marks → CutIs s g (drop from all) share → LanesLong lanes → length out ≡ length lent → length block % 3 ≡ 0 →
+      Walking kept out lanes g j sums from written share
+  walking kept out lanes g j sums from written share so_far settings-are sums-are cut-is lanes-long long whole =
       let rest = drop from all in
       let within : Within s.samples g.a (channel on_a rest) share =
       rw cut-is (cut-within s.samples (channel on_a rest) g.a (so_far.valid.gatherer-valid on_a).0) in
       let most : s.samples ≤ 256 = so_far.valid.settings-valid.samples-valid.1 in
       record {
         so_far = so_far;
+        settings-are = settings-are;
         sums-are = sums-are;
         within = within;
         cut-is = cut-is;
@@ -124,18 +122,22 @@ module _ (s : Settings) (ws₀ : Three (List ℕ)) (ms₀ : List ℕ) (block : L
         samples-most = most;
       }
 
-  -- it starts
-  pub walk-starts : ValidThree first → length block % 3 ≡ 0 → (sums : JointSums) (share : Share) (lanes : Three (List ℤ)) → sums ≡ joint_sums_of ws₀ ms₀ →
-      CutIs s g₀ all share → LanesLong lanes → Walking ws₀ ms₀ lent lanes g₀ j₀ sums 0 0 share
-  walk-starts ok whole sums share lanes sums-are cut-is lanes-long =
-      walking ws₀ ms₀ lent lanes g₀ j₀ sums 0 0 share (progress-none three_machine first all lent ok) sums-are cut-is lanes-long refl whole
+-- it starts
+pub walk-starts : (st₀ : ThreeState) (block : List ℤ) (lent : List ℕ) → ValidThree st₀ → length block % 3 ≡ 0 → (sums : JointSums) (share : Share)
+    (lanes : Three (List ℤ)) → sums ≡ joint_sums_of st₀.windows st₀.marks → CutIs st₀.settings st₀.gatherers (triples_of block) share → LanesLong lanes →
+    Walking st₀.settings st₀ block lent st₀ lent lanes st₀.gatherers st₀.joint sums 0 0 share
+walk-starts st₀ block lent ok whole sums share lanes sums-are cut-is lanes-long =
+    walking st₀.settings st₀ block lent st₀ lent lanes st₀.gatherers st₀.joint sums 0 0 share
+    (progress-none three_machine st₀ (triples_of block) lent ok) refl sums-are cut-is lanes-long refl whole
 
 -- it turns and ends
-module _ {s : Settings} {ws₀ : Three (List ℕ)} {ms₀ : List ℕ} {block : List ℤ} {lent : List ℕ} {g₀ : Three Gatherer} {j₀ : Joint}
-    {ws : Three (List ℕ)} {ms out : List ℕ} {lanes : Three (List ℤ)} {g : Three Gatherer} {j : Joint} {sums : JointSums} {from written : ℕ} {share : Share}
-    (inv : Walking s ws₀ ms₀ block lent g₀ j₀ ws ms out lanes g j sums from written share) where
-  abbrev st₀ : ThreeState
-  st₀ = three_with s g₀ j₀ ws₀ ms₀
+module _ {s : Settings} {st₀ : ThreeState} {block : List ℤ} {lent : List ℕ} {kept : ThreeState} {out : List ℕ} {lanes : Three (List ℤ)} {g : Three Gatherer} {j : Joint}
+    {sums : JointSums} {from written : ℕ} {share : Share} (inv : Walking s st₀ block lent kept out lanes g j sums from written share) where
+  abbrev ws : Three (List ℕ)
+  ws = kept.windows
+
+  abbrev ms : List ℕ
+  ms = kept.marks
 
   abbrev st : ThreeState
   st = three_with s g j ws ms
@@ -179,23 +181,25 @@ module _ {s : Settings} {ws₀ : Three (List ℕ)} {ms₀ : List ℕ} {block : L
   behind-long : (e : ℕ) → e ≤ length xs → length (take (length block - 3 * e) (drop (3 * e) block)) ≡ 3 * (length xs - e)
   behind-long e inside = part-long (3 * e) (length block - 3 * e) block (omega (arith, inv.size)) ∙ omega (arith, inv.size)
 
+  -- the state that is lent, with other windows
+  abbrev shifted : Three (List ℕ) → List ℕ → ThreeState
+  shifted ws₁ ms₁ = three_with kept.settings kept.gatherers kept.joint ws₁ ms₁
+
   -- the end of the walk, with triples that leave the half-cycle in progress
-  walk-last : (last : ThreeWalked) (ys zs : List (Three ℤ)) (taken : ℕ) (why : Option Stop) (ws₁ : Three (List ℕ)) (ms₁ out₁ : List ℕ) →
-      WalkEnds g j zs taken written why last → zs ≡ ys → g.a.count + length ys < s.samples → ws₁ ≡ ws → ms₁ ≡ ms → (k : ℕ) → taken ≡ from + k →
-      fed_by three_machine st rest left ≡ record { after = three_part st (parts_of ys); taken = k; records = []; why = why_number why } →
+  walk-last : (end : ThreeState) (ys zs : List (Three ℤ)) (taken why : ℕ) (ws₁ : Three (List ℕ)) (ms₁ out₁ : List ℕ) →
+      WalkEnds (shifted ws₁ ms₁) g j zs end → zs ≡ ys → g.a.count + length ys < s.samples → ws₁ ≡ ws → ms₁ ≡ ms → (k : ℕ) → taken ≡ from + k →
+      fed_by three_machine st rest left ≡ record { after = three_part st (parts_of ys); taken = k; records = []; why = why } →
       out₁ ≡ take behind out ++ drop behind out →
-      WalkIs st₀ xs lent s ws₁ ms₁ last out₁
+      WalkIs st₀ xs lent end (record { taken = taken; written = written; why = why }) out₁
   unfolding three_fed_with
-  walk-last last ys zs taken why ws₁ ms₁ out₁ ended zs-are below windows-are marks_are k taken_is fed bytes-are =
+  walk-last end ys zs taken why ws₁ ms₁ out₁ ended zs-are below windows-are marks_are k taken_is fed bytes-are =
       let none : written ≡ written + 0 = omega arith in
       let small : SquaresFit ys = subst SquaresFit zs-are ended.1 in
-      let last-is : last ≡ walked_with g j ys taken written why = ended.0 ∙ ap (λ (l : List (Three ℤ)). walked_with g j l taken written why) zs-are in
-      let end_is : three_with s last.gatherers last.joint ws₁ ms₁ ≡ three_part st (parts_of ys) =
-      λ i. three_with s (last-is i).gatherers (last-is i).joint (windows-are i) (marks_are i) in
+      let end_is : end ≡ three_part st (parts_of ys) =
+      ended.0 ∙ (λ i. three_with (inv.settings-are i) (with_parts g (parts_of (zs-are i))) j (windows-are i) (marks_are i)) in
       let even : (c : Channel) → (at c (parts_of ys)).count ≡ (parts_of ys).a.count = λ c. count_at c ys ∙ sym (count_at on_a ys) in (
-        (λ i. record { after = end_is i; told = told_in (last-is i).told; bytes = out₁ })
-            ∙ (λ i. record { after = three_part st (parts_of ys); told = record { taken = taken_is i; written = none i; why = why_number why }; bytes = out₁ })
-            ∙ progress-last inv.so_far (record { after = three_part st (parts_of ys); taken = k; records = []; why = why_number why }) out₁ fed bytes-are,
+        (λ i. fed_to (end_is i) (record { taken = taken_is i; written = none i; why = why }) out₁)
+            ∙ progress-last inv.so_far (record { after = three_part st (parts_of ys); taken = k; records = []; why = why }) out₁ fed bytes-are,
         subst ValidThree (sym end_is)
             (three_part-valid st (parts_of ys) inv.so_far.valid (fits_all ys small (omega arith)) even (omega (arith, count_at on_a ys))),
       )
@@ -296,23 +300,23 @@ module _ {s : Settings} {ws₀ : Three (List ℕ)} {ms₀ : List ℕ} {block : L
         pub walk-turns : (share₁ : Share) (lanes₁ : Three (List ℤ)) →
             CutIs s g₁ (triples_of (take (length block - 3 * (from + n)) (drop (3 * (from + n)) block))) share₁ → LanesLong lanes₁ →
             length part ≡ length (take (length out - behind) (drop behind out)) →
-            Walking s ws₀ ms₀ block lent g₀ j₀ ws₁ ms₁ (back part) lanes₁ g₁ h.joint h.sums (from + n) (written + h.written) share₁
+            Walking s st₀ block lent (shifted ws₁ ms₁) (back part) lanes₁ g₁ h.joint h.sums (from + n) (written + h.written) share₁
         walk-turns share₁ lanes₁ cut-is lanes-long kept =
-            walking s ws₀ ms₀ block lent g₀ j₀ ws₁ ms₁ (back part) lanes₁ g₁ h.joint h.sums (from + n) (written + h.written) share₁ next
+            walking s st₀ block lent (shifted ws₁ ms₁) (back part) lanes₁ g₁ h.joint h.sums (from + n) (written + h.written) share₁ next inv.settings-are
             (ap (λ (o : HalfOutcome). o.sums) took.1 ∙ ap (λ (z : ThreeState). joint_sums_of z.windows z.marks) after_is)
             (cut-is ∙ ap (λ (l : List (Three ℤ)). cut s.samples g₁.a (channel on_a l)) (triples-behind (from + n) block))
             lanes-long (same-records part kept) whole-triples
 
       -- it is not
-      pub walk-stops : (stop : Stop) {ws₁ : Three (List ℕ)} {ms₁ part : List ℕ} → Gives (Err stop) ws₁ ms₁ part → (last : ThreeWalked) →
-          WalkEnds g j (triples_of (take (3 * (from + n - 1) - 3 * from) (drop (3 * from) block))) (from + n - 1) written (Some stop) last →
-          WalkIs st₀ xs lent s ws₁ ms₁ last (back part)
-      walk-stops stop {ws₁} {ms₁} {part} is last ended =
+      pub walk-stops : (stop : Stop) {ws₁ : Three (List ℕ)} {ms₁ part : List ℕ} → Gives (Err stop) ws₁ ms₁ part → (end : ThreeState) →
+          WalkEnds (shifted ws₁ ms₁) g j (triples_of (take (3 * (from + n - 1) - 3 * from) (drop (3 * from) block))) end →
+          WalkIs st₀ xs lent end (record { taken = from + n - 1; written = written; why = stop_number stop }) (back part)
+      walk-stops stop {ws₁} {ms₁} {part} is end ended =
           let some : 0 < stop_number stop = stop-some stop in
           let stopped = half-refused (three_why_not st p left) (outcome (Err stop) ws₁ ms₁ part) st p (drop behind out) (given (Err stop) ws₁ ms₁ part is) some in
           let some_in : 0 < n = share-some in
           let long : length (take (n - 1) rest) ≡ n - 1 = part-long from (n - 1) xs (omega (arith, inv.share_in)) in
-          walk-last last (take (n - 1) rest) _ (from + n - 1) (Some stop) ws₁ ms₁ (back part) ended (triples-between from (n - 1) (from + n - 1) block (omega arith))
+          walk-last end (take (n - 1) rest) _ (from + n - 1) (stop_number stop) ws₁ ms₁ (back part) ended (triples-between from (n - 1) (from + n - 1) block (omega arith))
           (omega (arith, inv.within.fits)) (ap (λ (z : ThreeState). z.windows) stopped.1) (ap (λ (z : ThreeState). z.marks) stopped.1) (n - 1) (omega arith)
           (feed-stops three_cuts st rest left (inv.so_far.valid.gatherer-valid on_a).0 share inv.cut-is completes (stop_number stop) stopped.0 some)
           (back_is part ∙ ap (λ (l : List ℕ). take behind out ++ l) stopped.2)
@@ -324,10 +328,11 @@ module _ {s : Settings} {ws₀ : Three (List ℕ)} {ms₀ : List ℕ} {block : L
       let long = behind-long from inv.so_far.at_in in
       (omega arith, room_for _ (omega (arith, inv.within.below leaves, length-channel on_a rest, length-drop from xs)))
 
-  pub walk_ends : share.completes ≡ false → (last : ThreeWalked) →
-      WalkEnds g j (triples_of (take (length block - 3 * from) (drop (3 * from) block))) (length block / 3) written None last → WalkIs st₀ xs lent s ws ms last out
-  walk_ends leaves last ended =
-      walk-last last rest _ (length block / 3) None ws ms out ended (triples-behind from block)
+  pub walk_ends : share.completes ≡ false → (end : ThreeState) →
+      WalkEnds kept g j (triples_of (take (length block - 3 * from) (drop (3 * from) block))) end →
+      WalkIs st₀ xs lent end (record { taken = length block / 3; written = written; why = 0 }) out
+  walk_ends leaves end ended =
+      walk-last end rest _ (length block / 3) 0 ws ms out ended (triples-behind from block)
       (omega (arith, inv.within.below leaves, length-channel on_a rest)) refl refl
       (length rest) (omega (arith, length-drop from xs, inv.so_far.at_in, inv.size))
       (feed-rest three_cuts st rest left (inv.so_far.valid.gatherer-valid on_a).0 share inv.cut-is leaves) (sym (take-append-drop behind out))

@@ -1,4 +1,6 @@
 // The end of a half-cycle of a three-phase logger: a part of each channel, the values that end with it, and their records.
+// Not one with `feed`'s `complete`, nor is `three_feed`'s `walk` with its: three channels share one signal and one cut, so that what is kept, what is due and what
+// is pushed differ. Only the walk's outline is alike, and its laws stand once, in `greedy`.
 #![tactic(auto)]
 
 ghost use Rattle.std.specs.Prelude.{◌≡◌, ◌*◌, ◌^◌, ◌≤◌, ◌<◌};

@@ -41,13 +41,14 @@ impl ThreeLogger {
         Ok(ThreeLogger::fresh(settings))
     }
 
-    // A logger that has taken no triple, of settings that were read.
+    // A logger that has taken no triple, of settings that start accepts.
     pub fn fresh(settings: Settings) -> ThreeLogger
         requires { ValidSettings settings }
         ensures { result.state ≡ three_fresh settings }
     {
-        let state = ThreeState::fresh(settings);
-        ThreeLogger { state }
+        ThreeLogger {
+            state: ThreeState::fresh(settings),
+        }
     }
 
     // The greatest number of the block's triples that 02 allows, and their records; a block that is not a multiple of three samples is refused.
@@ -60,32 +61,13 @@ impl ThreeLogger {
                 answer: Err(Refusal::PartTriple),
             };
         }
-        let mut windows = self.state.windows;
-        let mut marks = self.state.marks;
-        let walked = three_feed::walk(
-            self.state.settings,
-            self.state.gatherers,
-            self.state.joint,
-            &mut windows,
-            &mut marks,
-            block,
-            records,
-        );
-        let told = walked.told;
+        let mut logger = self;
+        let told = three_feed::walk(&mut logger.state, block, records);
         ThreeFed {
-            logger: ThreeLogger {
-                state: ThreeState {
-                    settings: self.state.settings,
-                    gatherers: walked.gatherers,
-                    joint: walked.joint,
-                    windows,
-                    marks,
-                },
-            },
+            logger,
             answer: Ok(Told {
                 taken: 3 * told.taken,
-                written: told.written,
-                why: told.why,
+                ..told
             }),
         }
     }

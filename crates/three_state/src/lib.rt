@@ -12,6 +12,7 @@ use rms::Gatherer;
 use settings::Settings;
 use three_reading::{ChannelReadings, Three, ThreeReadings};
 
+// No invariant holds of the type: in specs/ `with_joint` and `with_gatherers` make one of any parts, and `ThreeLogger` keeps what holds of its own.
 #[derive(Clone, Copy)]
 pub struct ThreeState {
     pub settings: Settings,

@@ -86,18 +86,19 @@ impl Standing {
     {
         if begins {
             if self.start == 0 {
-                return Standing {
+                Standing {
                     start: i,
                     magnitude: value,
                     clipped,
-                };
+                }
+            } else {
+                self.with_value(kind, value, clipped)
             }
-            return self.with_value(kind, value, clipped);
+        } else if ends | (self.start == 0) {
+            Standing::none()
+        } else {
+            self.with_value(kind, value, clipped)
         }
-        if ends | (self.start == 0) {
-            return Standing::none();
-        }
-        self.with_value(kind, value, clipped)
     }
 
     // The record of the event that stood before value i and, as `after` says, stands no longer after it.

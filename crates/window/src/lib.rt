@@ -45,7 +45,8 @@ impl Place for u8 {
 }
 
 // The value after `count` others joins the window, which keeps `window_length` of them. Here and below the length stands beside the window, and no struct holds
-// both: it is the settings', one for a window, its marks and the windows of three channels.
+// both: it is the settings', one for a window, its marks and the windows of three channels. It is a plain number, whose bound each function says: each equation
+// has it as a number, and a type of its own would put a field's name into each.
 pub fn push<T: Copy>(window: &mut [T], window_length: usize, count: usize, value: T)
     requires { (0 < window_length) × (window_length ≤ length window.old) }
     ensures { window.new ≡ pushed window_length count window.old value }

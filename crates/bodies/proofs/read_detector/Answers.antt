@@ -12,13 +12,9 @@ use Rattle.settings.specs.declared.Settings.{Settings}
 use Rattle.settings.specs.Settings.{window_length_of}
 use Rattle.reading.specs.Layout.{events_widths}
 use Rattle.reading.specs.Restore.{events_rule}
-use Rattle.rvc.specs.declared.Phase.{Phase}
 use Rattle.detection.specs.declared.Detector.{Detector}
-use Rattle.bodies.specs.Bodies.{standing_from, detector_from, detector_answer}
+use Rattle.bodies.specs.Bodies.{detector_from, detector_answer}
 use Rattle.bodies.proofs.read_detector.Goals as goal
-
-abbrev with-phase : ℕ → List ℕ → Phase → Detector
-with-phase v ns q = record { count = v; dip = standing_from 5 11 ns; swell = standing_from 7 12 ns; interruption = standing_from 9 13 ns; phase = q }
 
 abbrev answer-by : Bool → ℕ → List ℕ → Answered Detector
 answer-by b v ns = answered (refuse 11 unless b then 0) (detector_from v ns)
@@ -39,12 +35,6 @@ pub returns : goal.returns
 returns c =
     let v = c.args.count in
     let ns = c.events_numbers-numbers.result in
-    (λ i. accepted (record {
-      count = v;
-      dip = c.standing.ensures i;
-      swell = c.standing-2.ensures i;
-      interruption = c.standing-3.ensures i;
-      phase = c.phase_of.ensures i;
-    }))
+    ap accepted c.detector_of.ensures
     ∙ (ap (λ (b : Bool). answer-by b v ns) (sym c.if-not-events_good.false)
     ∙ answer-is c.args.settings v c.args.part.now ns c.events_good.result c.events_numbers-numbers.ensures c.window_length.ensures.0 c.events_good.ensures)

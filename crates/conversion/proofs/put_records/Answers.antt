@@ -1,77 +1,38 @@
-use mathlib.Core.Path.{refl, sym, ◌∙◌, ap, ap₂}
-use mathlib.Core.List.{List}
-use Prim.Native.Nat.{ℕ, ◌≤◌}
-use native.Mathlib.Omega.{arith}
-use lib.ListN.{length, length-take, length-drop}
-use Rattle.octets.specs.Bytes.{row, numbers_in}
-use Rattle.conversion.proofs.RowsLaws.{row-asked, row_read, length_cut, one-put, all-put}
+use Rattle.std.proofs.Common.{◌∙◌, ap₂, arith, rules, List, ℕ}
+use Rattle.std.specs.Slice.Iter.{chunks_exact_rest}
+use Rattle.octets.specs.Bytes.{row}
+use Rattle.conversion.proofs.RowsLaws.{length_cut, one-put, all-put}
 use Rattle.conversion.proofs.put_records.Goals as goal
-
-pub loop-rest-init : goal.loop-rest-init
-loop-rest-init c = (refl, omega arith, refl)
-
-pub get_row-requires : goal.get_row-requires
-get_row-requires c =
-    let rest : List ℕ = c.loop-rest.rest.now in
-    let sized = c.record_length-length in
-    let widths = c.record_widths-widths in
-    let from = c.args.from in
-    rw c.split_at.ensures.front
-    (row-asked from.width sized.result rest sized.ensures.0 widths.result widths.ensures from.narrow (omega arith))
 
 pub slice_bounds-put_row-end : goal.slice_bounds-put_row-end
 slice_bounds-put_row-end c =
-    let rest : List ℕ = c.loop-rest.rest.now in
-    let other-sized = c.record_length-other_length in
-    let sized = c.record_length-length in
-    let a = c.args in
-    omega (arith, length_cut a.from.width sized.result rest sized.ensures.0 a.to.width other-sized.result other-sized.ensures.0 (omega arith))
+    let i = c.loop-record.invariant in
+    let steps = c.in-Some.ensures.steps in
+    omega (arith, i.room, length_cut c.args.from.width _ _ _ steps.1.0 (steps.1.1 ∙ i.size) c.args.to.width)
 
-pub put_row-requires : goal.put_row-requires
-put_row-requires c =
-    let l = c.loop-rest in
-    let rest : List ℕ = l.rest.now in
-    let other-sized = c.record_length-other_length in
-    let sized = c.record_length-length in
-    let others = c.record_widths-others in
-    let widths = c.record_widths-widths in
-    let a = c.args in
-    let numbers : List ℕ = c.get_row.new.numbers in
-    let cut = c.get_row.ensures ∙ ap (numbers_in widths.result) c.split_at.ensures.front in
-    let read = row_read a.from.width sized.result rest sized.ensures.0 widths.result widths.ensures numbers cut in
-    let next = length_cut a.from.width sized.result rest sized.ensures.0 a.to.width other-sized.result other-sized.ensures.0 (omega arith) in (
-      ap length read ∙ sym (ap length others.ensures),
-      rw others.ensures (simp (length-take, length-drop) (omega (arith, l.invariant.1, next))),
-    )
-
-pub loop-rest-preserved : goal.loop-rest-preserved
-loop-rest-preserved c =
-    let l = c.loop-rest in
-    let rest : List ℕ = l.rest.now in
-    let other-sized = c.record_length-other_length in
-    let sized = c.record_length-length in
-    let others = c.record_widths-others in
-    let widths = c.record_widths-widths in
-    let a = c.args in
-    let numbers : List ℕ = c.get_row.new.numbers in
+pub loop-record-preserved : goal.loop-record-preserved
+loop-record-preserved c =
+    let l = c.loop-record in
+    let i = l.invariant in
+    let steps = c.in-Some.ensures.steps in
+    let from = c.args.from.width in
+    let to = c.args.to.width in
+    let long = steps.1.1 ∙ i.size in
+    let next = length_cut from _ _ _ steps.1.0 long to in
     let bytes : List ℕ = c.put_row.new.part in
-    let h : sized.result ≤ length rest = omega arith in
-    let cut = c.get_row.ensures ∙ ap (numbers_in widths.result) c.split_at.ensures.front in
-    let read = row_read a.from.width sized.result rest sized.ensures.0 widths.result widths.ensures numbers cut in
-    let next = length_cut a.from.width sized.result rest sized.ensures.0 a.to.width other-sized.result other-sized.ensures.0 h in
-    let more = one-put a.from.width sized.result rest sized.ensures.0 a.to.width other-sized.result other-sized.ensures.0 in
-    rw c.split_at.ensures.back (
-      omega arith,
-      omega (arith, next),
-      more l.written l.output _ l.invariant.2 h (omega arith) bytes (c.put_row.ensures ∙ ap₂ row others.ensures read),
-    )
+    record {
+      can = search rules;
+      ends = search rules;
+      size = steps.0 ∙ i.size;
+      long = search rules;
+      room = omega (arith, i.room, next);
+      put =
+          one-put from _ _ _ steps.1.0 long to _ l.written l.output _ bytes c.record_length-other_length.ensures.0 i.put (omega (arith, i.room, next))
+          (c.put_row.ensures ∙ ap₂ row c.record_widths-others.ensures c.read.ensures);
+    }
 
 pub returns : goal.returns
 returns c =
-    let l = c.loop-rest in
-    let rest : List ℕ = l.rest.now in
-    let other-sized = c.record_length-other_length in
-    let sized = c.record_length-length in
-    let a = c.args in
-    let put = all-put a.from.width sized.result rest sized.ensures.0 a.to.width other-sized.result other-sized.ensures.0 in
-    put l.written l.output _ l.invariant.2 (omega arith)
+    let l = c.loop-record in
+    all-put c.args.from.width c.args.to.width (chunks_exact_rest l.record-iterator) l.written l.output _
+    (omega (arith, c.in-None.ensures.steps.1.0, l.invariant.size)) l.invariant.put

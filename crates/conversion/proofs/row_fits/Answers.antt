@@ -1,34 +1,20 @@
-use mathlib.Core.Path.{◌≡◌, sym, ◌∙◌, ap, ap₂}
-use mathlib.Core.Bool.{Bool, ◌&&◌, and_assoc, and-true}
-use mathlib.Core.List.{List, [], ◌∷◌}
-use Prim.Native.Nat.{ℕ, ◌+◌, ◌^◌, ◌<◌}
-use native.Mathlib.Numerals.{add-one}
-use native.Mathlib.Omega.{arith}
-use lib.ListN.{length, drop, get_or, drop_of_length-le}
-use lib.Seq.{drop-cons}
+-- The chain goes over pairs of a width and a number.
+use Rattle.std.proofs.Common.{refl, ◌≡◌, ◌∙◌, ap, rules, tests, Bool, ◌&&◌, List, [], ◌∷◌, ℕ, ◌^◌}
+use Rattle.std.proofs.lemmas.Iterator.{YieldsList-from_slice, YieldsList-from_zip}
+use Rattle.std.proofs.lemmas.Iterator.Search.{all_from_yields_List}
+use Rattle.std.specs.List.{list_all, zip}
 use Rattle.numbers.specs.Notation.{◌<ᵇ◌}
 use Rattle.conversion.specs.Conversion.{fits}
 use Rattle.conversion.proofs.row_fits.Goals as goal
 
-drop-one : (l : List ℕ) (i : ℕ) → i < length l → drop i l ≡ get_or l i 0 ∷ drop (i + 1) l
-drop-one l i h = rw (add-one, drop-cons l i 0)
-
-fits_next : (ws ns : List ℕ) (i : ℕ) → i < length ws → i < length ns →
-    fits (drop i ws) (drop i ns) ≡ (get_or ns i 0 <ᵇ 256 ^ get_or ws i 0 && fits (drop (i + 1) ws) (drop (i + 1) ns))
-fits_next ws ns i h l = ap₂ fits (drop-one ws i h) (drop-one ns i l)
-
-pub loop-k-preserved : goal.loop-k-preserved
-loop-k-preserved c =
-    let widths : List ℕ = c.args.widths.now in
-    let numbers : List ℕ = c.args.numbers.now in
-    let l = c.loop-k in
-    let rest = fits (drop (l.k + 1) widths) (drop (l.k + 1) numbers) in
-    let next = fits_next widths numbers l.k (omega arith) (omega (arith, c.told-numbers, c.told-widths)) in
-    ap (λ (b : Bool). l.fit && b && rest) c.holds-fit.ensures ∙ (and_assoc l.fit _ rest ∙ (ap (λ (b : Bool). l.fit && b) (sym next) ∙ l.invariant))
+fits-paired : (ws ns : List ℕ) → list_all (λ p. p.1 <ᵇ 256 ^ p.0) (zip ws ns) ≡ fits ws ns
+fits-paired [] ns = refl
+fits-paired (w ∷ ws) [] = refl
+fits-paired (w ∷ ws) (n ∷ ns) = ap (λ (b : Bool). n <ᵇ 256 ^ w && b) (fits-paired ws ns)
 
 pub returns : goal.returns
 returns c =
-    let widths : List ℕ = c.args.widths.now in
-    let l = c.loop-k in
-    let none : drop l.k widths ≡ [] = drop_of_length-le _ {i = l.k} (omega arith) in
-    sym (and-true l.fit) ∙ (ap (λ (ws : List ℕ). l.fit && fits ws (drop l.k c.args.numbers.now)) (sym none) ∙ l.invariant)
+    all_from_yields_List (λ p. p.1 <ᵇ 256 ^ p.0) c.all.new.self _ c.all.result c.all.ensures.ran
+    (YieldsList-from_zip {s = c.zip.result} (YieldsList-from_slice c.args.widths.now cc) (YieldsList-from_slice c.args.numbers.now cc))
+    (λ x b q k. search (rules, tests))
+    ∙ fits-paired c.args.widths.now c.args.numbers.now

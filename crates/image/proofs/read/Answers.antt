@@ -55,16 +55,16 @@ returns-in_err-gatherer c =
     let p = err_from_is_err_and c.from_residual-in_err-gatherer.result c.from_residual-in_err-gatherer.ensures.1 in
     rw (p.1, p.2) (gatherer c.args.bytes.now (omega arith) c.in_ok-read_table.ensures _ c.in-Ok.ensures _ c.in_err-gatherer.ensures)
 
-pub returns-in_err-values : goal.returns-in_err-values
-returns-in_err-values c =
-    let p = err_from_is_err_and c.from_residual-in_err-values.result c.from_residual-in_err-values.ensures.1 in
-    rw (p.1, p.2) (window c.args.bytes.now (omega arith) c.in_ok-read_table.ensures _ c.in-Ok.ensures _ c.in_ok-gatherer.ensures _ c.in_err-values.ensures)
+pub returns-in_err-count : goal.returns-in_err-count
+returns-in_err-count c =
+    let p = err_from_is_err_and c.from_residual-in_err-count.result c.from_residual-in_err-count.ensures.1 in
+    rw (p.1, p.2) (window c.args.bytes.now (omega arith) c.in_ok-read_table.ensures _ c.in-Ok.ensures _ c.in_ok-gatherer.ensures _ c.in_err-count.ensures)
 
 pub returns-in_err-detector : goal.returns-in_err-detector
 returns-in_err-detector c =
     let p = err_from_is_err_and c.from_residual-in_err-detector.result c.from_residual-in_err-detector.ensures.1 in
     rw (p.1, p.2)
-    (detector c.args.bytes.now (omega arith) c.in_ok-read_table.ensures _ c.in-Ok.ensures _ c.in_ok-gatherer.ensures _ c.in_ok-values.ensures _ c.in_err-detector.ensures)
+    (detector c.args.bytes.now (omega arith) c.in_ok-read_table.ensures _ c.in-Ok.ensures _ c.in_ok-gatherer.ensures _ c.in_ok-count.ensures _ c.in_err-detector.ensures)
 
 pub returns : goal.returns
-returns c = detector c.args.bytes.now (omega arith) c.in_ok-read_table.ensures _ c.in-Ok.ensures _ c.in_ok-gatherer.ensures _ c.in_ok-values.ensures _ c.in_ok-detector.ensures
+returns c = detector c.args.bytes.now (omega arith) c.in_ok-read_table.ensures _ c.in-Ok.ensures _ c.in_ok-gatherer.ensures _ c.in_ok-count.ensures _ c.in_ok-detector.ensures

@@ -1,5 +1,5 @@
 -- A number that passes the test has `near` for its root: a difference of at most 2 × near is no wrapped one, since near² + 2 × near is below 2^64.
-use Rattle.std.proofs.Common.{◌≡◌, ℕ, ◌+◌, ◌-◌, ◌*◌, ◌%◌, ◌^◌, ◌<◌, ◌≤◌, mul-le-mul, arith}
+use Rattle.std.proofs.Common.{◌≡◌, ◌∙◌, ℕ, ◌+◌, ◌-◌, ◌*◌, ◌%◌, ◌^◌, ◌<◌, ◌≤◌, mul-le-mul, arith}
 use Rattle.reading.specs.Values.{root as root_of}
 use Rattle.reading_laws.specs.RootLaws.{square-add, root-only}
 use Rattle.rms.proofs.+root.Goals as goal
@@ -12,4 +12,4 @@ module _ (n near : ℕ) (fits : near < 2 ^ 32) where
   near-root small h = root-only (record { low = omega (arith, square-fits); high = omega (arith, square-fits, square-add near 1) })
 
 pub returns-then-n-wide : goal.returns-then-n-wide
-returns-then-n-wide t c = near-root c.args.n c.args.near c.ranges.near.fits c.ranges.n.fits c.if-n-wide.true
+returns-then-n-wide t c = c.from-wide.ensures ∙ near-root c.args.n c.args.near c.ranges.near.fits c.ranges.n.fits (rw c.from-wide.ensures at c.if-n-wide.true)

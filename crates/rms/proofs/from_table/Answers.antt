@@ -1,5 +1,5 @@
 -- The rule at each entry of the table, from the test that the table passes.
-use Rattle.std.proofs.Common.{◌≡◌, ℕ, zero, suc, ◌+◌, ◌*◌, ◌<◌, true, List, [], ◌∷◌, length, get_or, sym, le_of_suc-le-suc, not-suc-le-zero, arith, ltb-true, leb-true}
+use Rattle.std.proofs.Common.{◌≡◌, ℕ, zero, suc, ◌+◌, ◌*◌, ◌<◌, true, List, [], ◌∷◌, length, get_or, sym, ◌∙◌, le_of_suc-le-suc, not-suc-le-zero, arith, ltb-true, leb-true}
 use Rattle.numbers.specs.Notation.{◌≤ᵇ◌, ◌<ᵇ◌}
 use Rattle.numbers.specs.NotationLaws.{and_left, and_right}
 use Rattle.reading_laws.specs.RootLaws.{IsRoot, root-only}
@@ -18,4 +18,4 @@ entry-is (r ∷ rs) n zero m e h p = let q : n ≡ m = omega arith in rw (sym q)
 entry-is (r ∷ rs) n (suc k) m e h p = entry-is rs (suc n) k m (and_right (root_passes n r) (roots_from (suc n) rs) e) (le_of_suc-le-suc h) (omega arith)
 
 pub returns : goal.returns
-returns c = let a = c.args in root-only (entry-is a.roots.now 0 a.n a.n c.requires.0 (omega (arith, c.told-roots)) (omega arith))
+returns c = let a = c.args in c.from.ensures ∙ root-only (entry-is a.roots.now 0 a.n a.n c.requires.0 (omega (arith, c.told-roots)) (omega arith))

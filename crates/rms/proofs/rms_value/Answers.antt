@@ -8,10 +8,10 @@ bound : (c : After-root) → c.root.result ≤ 524288
 bound c =
     let a = c.args in
     let p = c.requires in
-    rw c.root.ensures (rms-le a.half_length a.first a.second p.0 p.2 p.3)
+    rw (c.root.ensures, c.from.ensures) (rms-le a.half_length a.first a.second p.0 p.2 p.3)
 
 pub overflow_cast-result : goal.overflow_cast-result
 overflow_cast-result c = omega (arith, bound (goal.at.overflow_cast-result c).After-root)
 
 pub returns : goal.returns
-returns c = (c.root.ensures, bound (goal.at.returns c).After-root)
+returns c = (rw c.from.ensures at c.root.ensures, bound (goal.at.returns c).After-root)

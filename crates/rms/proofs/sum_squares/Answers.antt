@@ -36,7 +36,7 @@ loop-sample-preserved c =
     let l = c.loop-sample in
     let xs = c.args.samples.now in
     let one = squared-is (get_or c.as_chunks.result.1.now l.sample-index (pos 0)) (record { sfits = omega arith }) c.square-one.ensures.0 in
-    (part-next (front xs) c.as_chunks.result.1.now l.sample-index (omega arith) l.invariant.0 one, omega arith)
+    rw c.from.ensures (part-next (front xs) c.as_chunks.result.1.now l.sample-index (omega arith) l.invariant.0 one, omega arith)
 
 pub returns : goal.returns
 returns c =

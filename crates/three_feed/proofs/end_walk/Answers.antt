@@ -4,6 +4,7 @@ use Rattle.rms.specs.Gather.{with_part}
 use Rattle.three_reading.specs.declared.Three.{Three}
 use Rattle.three_reading.specs.Three.Channel.{on_a, on_b, on_c}
 use Rattle.rms.specs.declared.Part.{Part}
+use Rattle.three_state.specs.ThreeState.{three_with}
 use Rattle.three_feed.proofs.EachPart.{part-joins}
 use Rattle.three_feed.proofs.end_walk.Goals as goal
 
@@ -29,10 +30,6 @@ returns c =
     let p = c.with_part.ensures ∙ ap (λ (k : Three Part). with_part a.gatherers.a k.a) are.0 in
     let q = c.with_part-2.ensures ∙ ap (λ (k : Three Part). with_part a.gatherers.b k.b) are.0 in
     let r = c.with_part-3.ensures ∙ ap (λ (k : Three Part). with_part a.gatherers.c k.c) are.0 in (
-      λ i. record {
-        gatherers = record { a = p i; b = q i; c = r i };
-        joint = a.joint;
-        told = record { taken = a.taken; written = a.written; why = a.why };
-      },
+      λ i. three_with a.state.now.settings (record { a = p i; b = q i; c = r i }) a.joint a.state.now.windows a.state.now.marks,
       are.1,
     )

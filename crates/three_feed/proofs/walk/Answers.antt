@@ -21,8 +21,7 @@ cut_of-share-requires c = (c.requires.0.gatherer-valid on_a).0
 
 pub loop-share-init : goal.loop-share-init
 loop-share-init c =
-    let a = c.args in
-    walk-starts a.settings a.windows.now a.marks.now a.block.now a.records.now a.gatherers a.joint
+    walk-starts c.args.state.now c.args.block.now c.args.records.now
     c.requires.0 c.requires.1 _ c.cut_of-share.result _
     (λ i. record { values = three_of (c.sum_of.ensures i) (c.sum_of-2.ensures i) (c.sum_of-3.ensures i); marks = c.sum_of-4.ensures i })
     c.cut_of-share.ensures (three-long _ refl refl refl)
@@ -37,7 +36,7 @@ end_walk-requires c = stop-ready c.loop-share.invariant c.loop-share-test.true
 pub returns-in-Err : goal.returns-in-Err
 returns-in-Err c =
     walk-stops c.loop-share.invariant c.loop-share-test.true c.parts_of-parts.ensures.0 c.in-Err.stop c.in-Err.ensures
-    c.end_walk.result c.end_walk.ensures
+    c.end_walk.new.state c.end_walk.ensures
 
 pub halves_of-g-requires : goal.halves_of-g-requires
 halves_of-g-requires c =
@@ -66,4 +65,4 @@ pub end_walk-requires-2 : goal.end_walk-requires-2
 end_walk-requires-2 c = end-ready c.loop-share.invariant c.loop-share-test.false
 
 pub returns : goal.returns
-returns c = walk_ends c.loop-share.invariant c.loop-share-test.false c.end_walk-2.result c.end_walk-2.ensures
+returns c = walk_ends c.loop-share.invariant c.loop-share-test.false c.end_walk-2.new.state c.end_walk-2.ensures

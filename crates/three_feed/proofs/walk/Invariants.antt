@@ -7,7 +7,7 @@ use Rattle.three_feed.proofs.walk.Given as goal
 
 abbrev pub invariant-loop-share : goal.invariant-loop-share
 invariant-loop-share l =
-    Walking l.settings l.initial.windows l.initial.marks l.block l.initial.records l.initial.g l.initial.kept l.windows l.marks l.records (three_of l.lane_a l.lane_b l.lane_c) l.g l.kept l.sums l.at l.written l.share
+    Walking l.settings l.fn.state l.block l.fn.records l.state l.records (three_of l.lane_a l.lane_b l.lane_c) l.g l.kept l.sums l.at l.written l.share
 
 abbrev pub decreases-loop-share : goal.decreases-loop-share
 decreases-loop-share l =
