@@ -28,26 +28,25 @@ def by_line(pattern):
                 found.append(f"{crate}:{n}: {line.strip()}")
     return found
 
+def blocks(word):
+    """Each struct or each enum: its crate, name, and the lines inside."""
+    for crate, text in sources():
+        for m in re.finditer(word + r" (\w+)(?:<[^>]*>)? \{\n(.*?)\n\}", text, re.S):
+            yield crate, m[1], m[2]
+
 def option_like():
     """Enums with one variant that holds the value and one that holds nothing, a number or a refusal."""
     found = []
-    for crate, text in sources():
-        for m in re.finditer(r"enum (\w+)(?:<\w+>)? \{\n(.*?)\n\}", text, re.S):
-            variants = [v.strip().rstrip(",") for v in m[2].split("\n") if v.strip() and not v.strip().startswith("//")]
-            if len(variants) == 2 and any(re.fullmatch(r"\w+(\(u32\)|\(Refusal\))?", v) for v in variants) and m[1] not in ("Stop",):
-                found.append(f"{crate}: enum {m[1]} {{ {', '.join(variants)} }}")
+    for crate, name, inside in blocks("enum"):
+        variants = [v.strip().rstrip(",") for v in inside.split("\n") if v.strip() and not v.strip().startswith("//")]
+        if len(variants) == 2 and any(re.fullmatch(r"\w+(\(u32\)|\(Refusal\))?", v) for v in variants) and name != "Stop":
+            found.append(f"{crate}: enum {name} {{ {', '.join(variants)} }}")
     return found
 
 def flags():
     """Structs that hold a bool beside other fields."""
-    found = []
-    for crate, text in sources():
-        for m in re.finditer(r"struct (\w+)(?:<[^>]*>)? \{\n(.*?)\n\}", text, re.S):
-            fields = re.findall(r"(\w+): ([^,\n]+),", m[2])
-            for name, kind in fields:
-                if kind == "bool" and len(fields) > 1:
-                    found.append(f"{crate}: {m[1]}.{name}")
-    return found
+    fields = [(crate, name, re.findall(r"(\w+): ([^,\n]+),", inside)) for crate, name, inside in blocks("struct")]
+    return [f"{crate}: {name}.{field}" for crate, name, all in fields if len(all) > 1 for field, kind in all if kind == "bool"]
 
 def codes():
     """Numbers that stand for a kind, a reason or a refusal: their fields, parameters and results, constants, and where one is made or read."""
