@@ -8,7 +8,7 @@ ghost use Rattle.numbers.specs.Refusals.{answer_in};
 ghost use Rattle.reading.specs.Layout.{table_length, gatherer_widths, gatherer_length, values_widths, values_length, events_widths, events_length};
 ghost use Rattle.reading.specs.Image.{table_with};
 ghost use Rattle.rms.specs.Gather.{gatherer_row};
-ghost use Rattle.bodies.specs.Bodies.{phase_numbers, detector_row, phase_of_number, standing_with, detector_from, table_answer, gatherer_answer, window_answer, detector_answer};
+ghost use Rattle.bodies.specs.Bodies.{phase_numbers, detector_row, phase_of_number, standing_with, detector_from, table_answer, gatherer_answer, window_from, window_answer, detector_answer};
 
 use detection::Detector;
 use numbers::Refusal;
@@ -142,24 +142,38 @@ pub fn put_values(part: &mut [u8], count: u64, window: &[u32; 120], marks: &[u8;
     part[MARKS_AT..VALUES_LENGTH].copy_from_slice(marks);
 }
 
+// The numbers of body 3, whether its rules hold or not.
+pub fn read_places(part: &[u8]) -> WindowRead
+    requires { length part.now ≡ values_length }
+    ensures { result ≡ window_from (numbers_in values_widths part.now) }
+{
+    let mut window = [0u32; 120];
+    octets::get_words(&part[COUNT_WIDTH..MARKS_AT], &mut window);
+    let mut marks = [0u8; 120];
+    marks.copy_from_slice(&part[MARKS_AT..VALUES_LENGTH]);
+    WindowRead {
+        count: octets::number(&part[0..COUNT_WIDTH]),
+        window,
+        marks,
+    }
+}
+
 // Body 3; `whole` is the gatherer's, of the body before.
 pub fn read_window(part: &[u8], settings: Settings, whole: bool) -> Result<WindowRead, Refusal>
     requires { length part.now ≡ values_length }
     ensures { answer_in result ≡ window_answer settings whole part.now }
 {
-    let count = octets::number(&part[0..COUNT_WIDTH]);
-    let mut window = [0u32; 120];
-    octets::get_words(&part[COUNT_WIDTH..MARKS_AT], &mut window);
-    let mut marks = [0u8; 120];
-    marks.copy_from_slice(&part[MARKS_AT..VALUES_LENGTH]);
-    if !rules::values_good(&window, &marks, count, settings.window_length(), whole) {
+    let read = read_places(part);
+    if !rules::values_good(
+        &read.window,
+        &read.marks,
+        read.count,
+        settings.window_length(),
+        whole,
+    ) {
         return Err(Refusal::ImageBody);
     }
-    Ok(WindowRead {
-        count,
-        window,
-        marks,
-    })
+    Ok(read)
 }
 
 // Of body 4: the phase's number, a change's four, and its mark; zeros outside a change.

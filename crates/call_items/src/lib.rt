@@ -11,7 +11,8 @@
 // `start`, or `refused` and the number. A program ends with the input, or where a start should stand and does not.
 #![tactic(auto)]
 
-ghost use Rattle.std.specs.Prelude.{◌≡◌, ◌++◌, ◌*◌, ◌≤◌, ◌<◌, length, drop};
+ghost use Rattle.std.specs.Prelude.{◌≡◌, ◌++◌, ◌*◌, ◌≤◌, ◌<◌, length, take, drop, replicate};
+ghost use Rattle.samples.specs.Samples.{samples_of};
 ghost use Rattle.call_items.specs.Items.{kind_of, NextItem, digit_of, hex_of};
 
 use numbers::Refusal;
@@ -26,10 +27,10 @@ pub const MOST: usize = 65535;
 pub const MOST_SAMPLES: usize = 32767;
 
 // The lists that are made, at most.
-const LISTS: u32 = 1_000_000;
+pub const LISTS: u32 = 1_000_000;
 
 // The bytes that are printed at a time.
-const PART: usize = 4096;
+const PART: usize = 32_768;
 
 // What an item is. A list skips an item of a kind that its logger does not know.
 #[derive(Clone, Copy, Debug, PartialEq, Eq)]
@@ -73,12 +74,16 @@ pub struct Item {
 
 impl Item {
     // The bytes that follow it.
-    pub fn bytes(self, room: &[u8; MOST]) -> &[u8] {
+    pub fn bytes(self, room: &[u8; MOST]) -> &[u8]
+        ensures { result.now ≡ take self.length room.now }
+    {
         &room[..usize::from(self.length)]
     }
 
     // The samples of these bytes, low byte first; a last odd byte is none.
-    pub fn samples<'a>(self, room: &[u8; MOST], places: &'a mut [i16; MOST_SAMPLES]) -> &'a [i16] {
+    pub fn samples<'a>(self, room: &[u8; MOST], places: &'a mut [i16; MOST_SAMPLES]) -> &'a [i16]
+        ensures { result.now ≡ samples_of (take self.length room.now) }
+    {
         let count = usize::from(self.length) / 2;
         let block: &mut [i16] = &mut places[..count];
         samples::decode(&room[..2 * count], block);
@@ -86,9 +91,11 @@ impl Item {
     }
 
     // The buffer that its call is lent: as many bytes as its number says.
-    pub fn lent(self, space: &mut [u8; MOST]) -> &mut [u8] {
+    pub fn lent(self, space: &mut [u8; MOST]) -> &mut [u8]
+        ensures { result.now ≡ replicate self.number self.fill }
+    {
         let buffer: &mut [u8] = &mut space[..usize::from(self.number)];
-        buffer.fill(self.fill);
+        set_all(buffer, self.fill);
         buffer
     }
 }
@@ -147,7 +154,7 @@ fn make_list<L: List>(rt: HostRuntime, settings: &[u8], calls: u16) {
             make_calls(rt, list, calls);
         }
         Err(refusal) => {
-            print_number(rt, "refused", refusal.number());
+            print_number(rt, b"refused", u64::from(refusal.number()));
             print(rt, "\n");
         }
     }
@@ -182,21 +189,23 @@ pub fn print(rt: HostRuntime, text: impl fmt::Display + Drop) {
     let _ = Output(rt).write(text);
 }
 
+// Prints bytes as they are, text or not.
+pub fn print_word(rt: HostRuntime, word: &[u8]) {
+    let _ = streams::write_all(&mut rt.stdout(), word);
+}
+
 // Prints a word and a number.
-pub fn print_number(rt: HostRuntime, word: &str, number: u32) {
-    print(rt, format_args!("{word} {number}"));
+pub fn print_number(rt: HostRuntime, word: &[u8], number: u64) {
+    print_word(rt, word);
+    print(rt, format_args!(" {number}"));
 }
 
 // Prints what feed tells, or a trial: a word and three numbers.
-pub fn print_told(rt: HostRuntime, word: &str, told: Told) {
+pub fn print_told(rt: HostRuntime, word: &[u8], told: Told) {
+    print_word(rt, word);
     print(
         rt,
-        format_args!(
-            "{word} {} {} {}",
-            told.taken,
-            told.written,
-            told.why_number()
-        ),
+        format_args!(" {} {} {}", told.taken, told.written, told.why_number()),
     );
 }
 
@@ -231,6 +240,13 @@ fn digit(number: u8) -> u8
     } else {
         b'a' + (number - 10)
     }
+}
+
+// Every byte of a buffer becomes this one.
+pub fn set_all(buffer: &mut [u8], byte: u8)
+    ensures { buffer.new ≡ replicate (length buffer.old) byte }
+{
+    buffer.fill(byte);
 }
 
 // Two digits for each byte, from the text's start on; what is behind them stays. `{:02x}` would be a write for each byte, and no contract says what it puts

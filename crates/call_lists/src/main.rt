@@ -102,7 +102,7 @@ impl Calls {
         let records = item.lent(space);
         let fed = self.logger.feed(block, records);
         self.logger = fed.logger;
-        call_items::print_told(rt, "feed", fed.told);
+        call_items::print_told(rt, b"feed", fed.told);
         call_items::print_bytes(rt, records);
     }
 
@@ -111,7 +111,7 @@ impl Calls {
         let block = item.samples(bytes, &mut places);
         let scratch = item.lent(space);
         let told = self.logger.trial(block, scratch);
-        call_items::print_told(rt, "trial", told);
+        call_items::print_told(rt, b"trial", told);
         call_items::print_bytes(rt, scratch);
     }
 
@@ -136,7 +136,7 @@ impl Calls {
     // Saves into this buffer, and keeps what was saved.
     fn save(&mut self, rt: HostRuntime, image: &mut [u8]) {
         let answer = self.logger.save(image);
-        call_items::print_number(rt, "save", numbers::answer_number(answer));
+        call_items::print_number(rt, b"save", u64::from(numbers::answer_number(answer)));
         call_items::print_bytes(rt, image);
         if answer.is_ok()
             && let Some(saved) = image.first_chunk()

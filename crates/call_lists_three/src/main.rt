@@ -45,8 +45,8 @@ impl Calls {
         let fed = self.logger.feed(block, records);
         self.logger = fed.logger;
         match fed.answer {
-            Ok(told) => call_items::print_told(rt, "feed", told),
-            Err(refusal) => call_items::print_number(rt, "refused", refusal.number()),
+            Ok(told) => call_items::print_told(rt, b"feed", told),
+            Err(refusal) => call_items::print_number(rt, b"refused", u64::from(refusal.number())),
         }
         call_items::print_bytes(rt, records);
     }

@@ -75,7 +75,7 @@ impl Edition {
 fn holds(width: u8, number: u64) -> bool
     ensures { result ≡ (number <ᵇ 256 ^ width) }
 {
-    8 <= width || number < 256_u64.pow(u32::from(width))
+    8 <= width || number < 1 << (8 * u32::from(width))
 }
 
 // Whether widths hold the numbers of a row.
@@ -88,12 +88,15 @@ fn row_fits(widths: &[u8; 7], numbers: &[u64; 7]) -> bool
         .all(|(width, number)| holds(*width, *number))
 }
 
-// Kind 1 to 4, mark 0 or 1, two zero bytes.
-fn row_good(numbers: &[u64; 7]) -> bool
-    ensures { result ≡ good_row numbers.now }
+// Kind 1 to 4, mark 0 or 1, two zero bytes: the first four bytes, which are alike in every edition, so that the other numbers need not be read.
+fn row_good(record: &[u8], from: Edition) -> bool
+    requires { length record.now ≡ record_length_with from.width }
+    ensures { result ≡ good_row (numbers_in (record_widths_with from.width) record.now) }
 {
-    let [kind, mark, zeros, _, _, _, _] = *numbers;
-    1 <= kind && kind <= 4 && mark <= 1 && zeros == 0
+    let kind = record[0];
+    let mark = record[1];
+    let zeros = octets::get_u16(record, 2);
+    (1 <= kind) & ((kind <= 4) & ((mark <= 1) & (zeros == 0)))
 }
 
 // Whether each whole record of a list is one; what is behind them is passed over.
@@ -101,7 +104,7 @@ fn all_good(list: &[u8], from: Edition) -> bool
     ensures { result ≡ all_rows good_row (rows_in from.width list.now) }
 {
     list.chunks_exact(from.record_length())
-        .all(|record| row_good(&from.read(record)))
+        .all(|record| row_good(record, from))
 }
 
 // Whether the other edition's widths hold the numbers of each of them.

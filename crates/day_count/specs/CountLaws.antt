@@ -87,11 +87,12 @@ module _ (s : Settings) (z day : ℕ) (b : List ℕ) where
       all_known = known_next b i known one_known h so_far.all_known known_is;
     }
 
-    pub tallied-all : i ≡ length b / record_length → record { second = second; first = first } ≡ tallied s z day (events_of b)
+    pub tallied-all : i ≡ length b / record_length
+        → (record { second = second; first = first } ≡ tallied s z day (events_of b)) × (known ≡ all known_kind (kinds (events_of b)))
     tallied-all whole =
         let second_is = counted-all _ b i second whole so_far.seconds in
         let first-is = counted-all _ b i first whole so_far.firsts in
-        λ j. record { second = second_is j; first = first-is j }
+        (λ j. record { second = second_is j; first = first-is j }, known-all b i known whole so_far.all_known)
 
 -- the day of a value, without the sum of z and the value
 pub day-split : (z v l : ℕ) → 0 < l → v / l + (z + v % l) / l ≡ (z + v) / l

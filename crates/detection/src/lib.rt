@@ -9,7 +9,7 @@ ghost use Rattle.reading.specs.Feed.{last_value};
 ghost use Rattle.rvc.specs.Phase.{moved_on, Joins};
 ghost use Rattle.detection.specs.Detection.{no_value, stands_at, joined_of, tried_by, WindowReady, TryReady};
 
-use reading::Kind;
+use reading::{Event, Kind};
 use records::Due;
 use rms::Marked;
 use rvc::{Joining, Moved, Phase, Stands};
@@ -200,9 +200,11 @@ impl Detector {
             phase: moved.phase,
         };
         let due = Due {
-            dip: self.dip.ended(Kind::Dip, i, dip),
-            swell: self.swell.ended(Kind::Swell, i, swell),
-            interruption: self.interruption.ended(Kind::Interruption, i, interruption),
+            dip: self.dip.ended(Event::DIP, i, dip),
+            swell: self.swell.ended(Event::SWELL, i, swell),
+            interruption: self
+                .interruption
+                .ended(Event::INTERRUPTION, i, interruption),
             change: moved.ended,
         };
         Tried {

@@ -4,6 +4,7 @@
 
 ghost use Rattle.std.specs.Prelude.{◌≡◌, ◌&&◌, ◌++◌, ◌+◌, ◌*◌, ◌≤◌, length, IfSome};
 ghost use Rattle.arrayvec.specs.ArrayString.{array_string_len};
+ghost use Rattle.arrayvec.specs.ArrayVec.{array_vec_len};
 ghost use Rattle.io.specs.Counts.{IsPrefixLen};
 ghost use Rattle.numbers.specs.Notation.{◌≡ᵇ◌};
 ghost use Rattle.settings.specs.Settings.{ValidSettings};
@@ -11,7 +12,7 @@ ghost use Rattle.reading.specs.Layout.{record_length};
 ghost use Rattle.reading.specs.Told.{why_number};
 ghost use Rattle.event_lines.specs.Text.{column, kind_name, line_of, lines_of};
 
-use arrayvec::ArrayString;
+use arrayvec::{ArrayString, ArrayVec};
 use itoa::Buffer;
 use reading::{Event, Kind, PhaseKind, Stop};
 use records::RECORD_LENGTH;
@@ -46,11 +47,12 @@ pub struct Ending {
     pub why: Option<Stop>,
 }
 
-// A program's standard input, output and error. A line on the last begins with the program's name, a colon and a space.
+// A program's standard input, output and error. A line on the last begins with the program's name, a colon and a space. What is printed and the name are bytes,
+// text or not.
 #[derive(Clone, Copy)]
 pub struct Console<'a> {
     rt: HostRuntime,
-    name: &'a str,
+    name: &'a [u8],
     ghost short: { length name.now ≤ 32 },
 }
 
@@ -124,26 +126,35 @@ pub fn goes_on(good: bool, got: usize, whole: usize, why: Option<Stop>) -> bool
     good && got == whole && why.is_none()
 }
 
+// Appends bytes for which there is room.
+fn put<const CAP: usize>(text: &mut ArrayVec<u8, CAP>, bytes: &[u8])
+    requires { array_vec_len text.old + length bytes.now ≤ CAP }
+    ensures items { text.new.items ≡ text.old.items ++ bytes.now }
+    ensures len { array_vec_len text.new ≡ array_vec_len text.old + length bytes.now }
+{
+    let _ = text.try_extend_from_slice(bytes);
+}
+
 impl<'a> Console<'a> {
-    pub fn new(rt: HostRuntime, name: &'a str) -> Console<'a>
+    pub fn new(rt: HostRuntime, name: &'a [u8]) -> Console<'a>
         requires { length name.now ≤ 32 }
     {
         Console { rt, name }
     }
 
     // Writes on standard error. There is nobody to tell a failure.
-    fn say(self, text: &str) {
-        let _ = streams::write_all(&mut self.rt.stderr(), text.as_bytes());
+    fn say(self, text: &[u8]) {
+        let _ = streams::write_all(&mut self.rt.stderr(), text);
     }
 
     // Tells a line on standard error.
     fn tell(self, line: &str)
         requires { length line.now ≤ 96 }
     {
-        let mut text = ArrayString::<MESSAGE>::new();
-        text.push_str(self.name);
-        text.push_str(line);
-        self.say(text.as_str());
+        let mut text = ArrayVec::<u8, MESSAGE>::new();
+        put(&mut text, self.name);
+        put(&mut text, line.as_bytes());
+        self.say(&text);
     }
 
     // Tells on standard error that a call failed on a stream, and why, in the system's words.
@@ -152,13 +163,13 @@ impl<'a> Console<'a> {
     {
         let mut reason = ArrayString::<REASON>::new();
         let _ = write!(reason, "{error}");
-        let mut text = ArrayString::<FAILURE>::new();
-        text.push_str(self.name);
-        text.push_str(stream);
-        text.push_str(": ");
-        text.push_str(words(reason.as_str()));
-        text.push('\n');
-        self.say(text.as_str());
+        let mut text = ArrayVec::<u8, FAILURE>::new();
+        put(&mut text, self.name);
+        put(&mut text, stream.as_bytes());
+        put(&mut text, b": ");
+        put(&mut text, words(reason.as_str()).as_bytes());
+        put(&mut text, b"\n");
+        self.say(&text);
     }
 
     // Reads until the bytes are full or the input ends; a read that fails is told.
@@ -173,13 +184,13 @@ impl<'a> Console<'a> {
     }
 
     // Prints, unless something was lost before, and tells whether nothing is; a write that fails is told.
-    pub fn print(self, printed: bool, text: &str) -> bool
+    pub fn print(self, printed: bool, text: &[u8]) -> bool
         ensures { result ≡ (printed && result) }
     {
         if !printed {
             return false;
         }
-        match streams::write_all(&mut self.rt.stdout(), text.as_bytes()) {
+        match streams::write_all(&mut self.rt.stdout(), text) {
             Ok(()) => true,
             Err(error) => {
                 self.fail("standard output", error);
@@ -189,7 +200,7 @@ impl<'a> Console<'a> {
     }
 
     pub fn print_heading(self) -> bool {
-        self.print(true, "kind start halves first second\n")
+        self.print(true, b"kind start halves first second\n")
     }
 
     // Prints a line of a word of 7 letters at most and a number.
@@ -200,7 +211,7 @@ impl<'a> Console<'a> {
         text.push_str(word);
         put_column(&mut text, number);
         text.push('\n');
-        self.print(true, text.as_str())
+        self.print(true, text.as_str().as_bytes())
     }
 
     // Reads the settings; or none, where they are not read, or refused. The number of refused ones is printed, and a read that fails is told.

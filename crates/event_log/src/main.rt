@@ -66,6 +66,6 @@ impl EventLogger for Channel {
 }
 
 fn main(rt: HostRuntime) {
-    let console = Console::new(rt, "event_log: ");
+    let console = Console::new(rt, b"event_log: ");
     event_program::run::<Channel>(console, &mut [0u8; 2 * CHUNK], &mut [0i16; CHUNK]);
 }

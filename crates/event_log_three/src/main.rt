@@ -73,6 +73,6 @@ impl EventLogger for Channels {
 }
 
 fn main(rt: HostRuntime) {
-    let console = Console::new(rt, "event_log_three: ");
+    let console = Console::new(rt, b"event_log_three: ");
     event_program::run::<Channels>(console, &mut [0u8; 2 * CHUNK], &mut [0i16; CHUNK]);
 }

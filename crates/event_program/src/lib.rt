@@ -93,7 +93,7 @@ fn feed_all<L: EventLogger>(console: Console, logger: L, samples: &[i16]) -> Tur
         let told = fed.told;
         text.clear();
         event_lines::put_lines(&mut text, &records, told.written);
-        printed = console.print(printed, text.as_str());
+        printed = console.print(printed, text.as_str().as_bytes());
         held = fed.logger;
         if !wants_room(told.why) {
             return Turn {
@@ -126,6 +126,7 @@ fn feed_chunk<L: EventLogger>(
 fn log<L: EventLogger>(console: Console, settings: Settings, bytes: &mut [u8], places: &mut [i16])
     requires settings { ValidSettings settings }
     requires chunk { (length bytes.old ≡ 2 * length places.old) × (0 < L.whole_of (length places.old)) }
+    requires parting { L.whole_of (length places.old) ≡ length places.old }
 {
     if !console.print_heading() {
         return;
@@ -145,9 +146,10 @@ fn log<L: EventLogger>(console: Console, settings: Settings, bytes: &mut [u8], p
     }
 }
 
-// The program: so many bytes are read at a time, and their samples put into the places.
+// The program: so many bytes are read at a time, and their samples put into the places. A chunk can be fed whole: no sample is left over between two chunks.
 pub fn run<L: EventLogger>(console: Console, bytes: &mut [u8], places: &mut [i16])
-    requires { (length bytes.old ≡ 2 * length places.old) × (0 < L.whole_of (length places.old)) }
+    requires chunk { (length bytes.old ≡ 2 * length places.old) × (0 < L.whole_of (length places.old)) }
+    requires parting { L.whole_of (length places.old) ≡ length places.old }
 {
     if let Some(settings) = console.begin() {
         log::<L>(console, settings, bytes, places);

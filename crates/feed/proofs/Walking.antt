@@ -147,7 +147,7 @@ module _ {s : Settings} {st₀ : State} {block : List ℤ} {lent : List ℕ} {ke
     abbrev p : Part
     p = part_of (take n rest)
 
-    share-some : 0 < n
+    pub share-some : 0 < n
     share-some = inv.within.some completes
 
     module _ {q : Part} (q-of : (q ≡ part_of (take (at + n - at) rest)) × (q.squares ≤ q.count * 2 ^ 30)) where

@@ -40,6 +40,13 @@ pub fn feed(logger: Logger, block: &[i16], records: &mut [u8]) -> Fed
     logger.feed(block, records)
 }
 
+// Feed of a logger that is lent, as advance and try make it.
+pub fn feed_in_place(logger: &mut Logger, block: &[i16], records: &mut [u8]) -> Told
+    ensures { fed_to logger.new.state (told_in result) records.new ≡ logger_calls.feed logger.old.state block.now records.old }
+{
+    logger.feed_in_place(block, records)
+}
+
 pub fn trial(logger: Logger, block: &[i16], scratch: &mut [u8]) -> Told
     ensures { trial_to (told_in result) scratch.new ≡ logger_calls.trial logger.state block.now scratch.old }
 {

@@ -120,7 +120,7 @@ fn advance(
     ensures { advanced_to (number_in result) next.new records.new reply.new
         ≡ advanced image.now samples.now next.old records.old reply.old }
 {
-    let mut logger = Logger::resume(image)?;
+    let mut logger = Logger::from_image(image)?;
     if samples.len() % 2 != 0 {
         return Err(Refusal::OddSamples);
     }
@@ -144,7 +144,7 @@ fn try_block(
     ensures { block_tried_to (number_in result) scratch.new reply.new
         ≡ block_tried image.now samples.now scratch.old reply.old }
 {
-    let mut logger = Logger::resume(image)?;
+    let mut logger = Logger::from_image(image)?;
     if samples.len() % 2 != 0 {
         return Err(Refusal::OddSamples);
     }

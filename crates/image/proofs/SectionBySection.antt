@@ -28,15 +28,15 @@ use Rattle.image.specs.Image.{state_at_with, state_at, state_read}
 module _ (b : List ℕ) where
   abbrev pub by-detector : Settings → Gatherer → WindowRead → Answered Detector → Answered State
   by-detector s g w (accepted d) = accepted (state_with s g d w.window w.marks)
-  by-detector s g w (refused n) = refused n
+  by-detector s g w (refused n) = refused 11
 
   abbrev pub by-window : Settings → Gatherer → Answered WindowRead → Answered State
   by-window s g (accepted w) = by-detector s g w (detector_answer s w.count (part events_offset events_length b))
-  by-window s g (refused n) = refused n
+  by-window s g (refused n) = refused 11
 
   abbrev pub by-gatherer : Settings → Answered Gatherer → Answered State
   by-gatherer s (accepted g) = by-window s g (window_answer s g.whole (part values_offset values_length b))
-  by-gatherer s (refused n) = refused n
+  by-gatherer s (refused n) = refused 11
 
   abbrev pub by-settings : Answered Settings → Answered State
   by-settings (accepted s) = by-gatherer s (gatherer_answer s (part gatherer_offset gatherer_length b))
@@ -44,7 +44,7 @@ module _ (b : List ℕ) where
 
   abbrev pub by-table : Answered (Unit {0}) → Answered State
   by-table (accepted u) = by-settings (settings_read (settings_part b))
-  by-table (refused n) = refused n
+  by-table (refused n) = refused 9
 
   -- each section's answer is its test's, so the first that fails is the refusal
   abbrev s : Settings

@@ -46,17 +46,28 @@ pub fn read(bytes: &[u8]) -> Result<State, Refusal>
     if bytes.len() != IMAGE_LENGTH {
         return Err(Refusal::ImageLength);
     }
-    bodies::read_table(&bytes[0..SETTINGS_AT], COUNT_WIDTH as u64)?;
+    let Ok(()) = bodies::read_table(&bytes[0..SETTINGS_AT], COUNT_WIDTH as u64) else {
+        return Err(Refusal::ImageTable);
+    };
     let Ok(settings) = Settings::from_bytes(&bytes[SETTINGS_AT..GATHERER_AT]) else {
         return Err(Refusal::ImageSettings);
     };
-    let gatherer = bodies::read_gatherer(&bytes[GATHERER_AT..VALUES_AT], settings)?;
+    let Ok(gatherer) = bodies::read_gatherer(&bytes[GATHERER_AT..VALUES_AT], settings) else {
+        return Err(Refusal::ImageBody);
+    };
+    let Ok(values) = bodies::read_window(&bytes[VALUES_AT..EVENTS_AT], settings, gatherer.whole)
+    else {
+        return Err(Refusal::ImageBody);
+    };
     let WindowRead {
         count,
         window,
         marks,
-    } = bodies::read_window(&bytes[VALUES_AT..EVENTS_AT], settings, gatherer.whole)?;
-    let detector = bodies::read_detector(&bytes[EVENTS_AT..IMAGE_LENGTH], settings, count)?;
+    } = values;
+    let Ok(detector) = bodies::read_detector(&bytes[EVENTS_AT..IMAGE_LENGTH], settings, count)
+    else {
+        return Err(Refusal::ImageBody);
+    };
     Ok(State {
         settings,
         gatherer,

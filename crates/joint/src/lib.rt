@@ -335,11 +335,11 @@ impl Joint {
     {
         let before = self.standings;
         Due {
-            dip: before.dip.ended(Kind::Dip, i, standings.dip),
-            swell: before.swell.ended(Kind::Swell, i, standings.swell),
+            dip: before.dip.ended(Event::DIP, i, standings.dip),
+            swell: before.swell.ended(Event::SWELL, i, standings.swell),
             interruption: before
                 .interruption
-                .ended(Kind::Interruption, i, standings.interruption),
+                .ended(Event::INTERRUPTION, i, standings.interruption),
             change: worse_ended(moved.a.ended, worse_ended(moved.b.ended, moved.c.ended)),
         }
     }

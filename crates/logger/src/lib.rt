@@ -109,11 +109,36 @@ impl Logger {
         }
     }
 
-    // The logger of an image; or the refusal, and no logger. The clause tells it as the restore of a spare logger, which the converter's promises speak of.
-    pub fn resume(image: &[u8]) -> Result<Logger, Refusal>
+    // The logger of an image; or the refusal, and the spare logger that the image was to be restored into.
+    pub fn resume(image: &[u8]) -> Resumed
+        ensures { restored_to result.logger.state result.answer ≡ logger_calls.restore (fresh_of spare_settings) image.now }
+    {
+        let spare = Logger::fresh(Logger::spare_settings());
+        spare.restore(image)
+    }
+
+    // The logger of an image; or the refusal, and no logger: a caller that goes on from none needs no spare one, nor room for it. The clause tells it as `resume`.
+    pub fn from_image(image: &[u8]) -> Result<Logger, Refusal>
         ensures { resumed_to result ≡ logger_calls.restore (fresh_of spare_settings) image.now }
     {
         let state = image::read(image)?;
         Ok(Logger { state })
+    }
+
+    // The least settings that start accepts.
+    fn spare_settings() -> Settings
+        ensures { (result ≡ spare_settings) × ValidSettings result }
+    {
+        Settings {
+            samples: Settings::SAMPLES_LEAST,
+            frequency: Settings::FREQUENCY_50,
+            declared: Settings::DECLARED_LEAST,
+            limit: Settings::LIMIT_LEAST,
+            reduction: 0,
+            interruption: Settings::INTERRUPTION_LEAST,
+            dip: 1,
+            swell: 2,
+            hysteresis: 0,
+        }
     }
 }

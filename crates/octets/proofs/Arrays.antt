@@ -1,21 +1,8 @@
 -- Numbers that std reads from and writes into arrays of bytes are those of this crate's definitions.
-use Rattle.std.proofs.Common.{◌≡◌, refl, ap, arith, List, [], ◌∷◌, ◌++◌, ℕ, zero, suc, ◌*◌, ◌/◌, ◌≤◌, ◌<◌, length, length-take, length-drop, ◌^◌, take, drop, replicate, get_or, map, w32, w64}
+use Rattle.std.proofs.Common.{◌≡◌, refl, ap, arith, List, [], ◌∷◌, ℕ, zero, suc, ◌*◌, ◌/◌, ◌≤◌, ◌<◌, length, length-take, length-drop, ◌^◌, take, drop, get_or, map, w32}
 use Rattle.std.specs.Int.{from_le_bytes, to_le_bytes}
 use Rattle.std.specs.Simd.{first_chunks}
 use Rattle.octets.specs.Bytes.{bytes_of, number_of, numbers_in, fours}
-
--- bytes with zeros behind them, 8 in all
-pub number_of-whole : (b : List ℕ) → length b ≤ 8 → from_le_bytes w64 (b ++ drop (length b) (replicate 8 0)) ≡ number_of b
-number_of-whole [] h = refl
-number_of-whole (x₀ ∷ []) h = omega arith
-number_of-whole (x₀ ∷ x₁ ∷ []) h = omega arith
-number_of-whole (x₀ ∷ x₁ ∷ x₂ ∷ []) h = omega arith
-number_of-whole (x₀ ∷ x₁ ∷ x₂ ∷ x₃ ∷ []) h = omega arith
-number_of-whole (x₀ ∷ x₁ ∷ x₂ ∷ x₃ ∷ x₄ ∷ []) h = omega arith
-number_of-whole (x₀ ∷ x₁ ∷ x₂ ∷ x₃ ∷ x₄ ∷ x₅ ∷ []) h = omega arith
-number_of-whole (x₀ ∷ x₁ ∷ x₂ ∷ x₃ ∷ x₄ ∷ x₅ ∷ x₆ ∷ []) h = omega arith
-number_of-whole (x₀ ∷ x₁ ∷ x₂ ∷ x₃ ∷ x₄ ∷ x₅ ∷ x₆ ∷ x₇ ∷ []) h = omega arith
-number_of-whole (x₀ ∷ x₁ ∷ x₂ ∷ x₃ ∷ x₄ ∷ x₅ ∷ x₆ ∷ x₇ ∷ x₈ ∷ b) h = absurd (omega arith)
 
 -- 4 bytes
 pub number_of-four : (b : List ℕ) → length b ≡ 4 → from_le_bytes w32 b ≡ number_of b

@@ -5,9 +5,9 @@ use Prim.Native.Nat.{ℕ, zero, suc, ◌+◌, ◌≤◌, ◌<◌}
 use native.Mathlib.Omega.{arith}
 use native.Mathlib.Numerals.{add-one}
 use lib.ListN.{length, get_or, take, drop, set, length-append}
-use lib.Seq.{drop-cons, take-suc-set, take_all, take_at, length-take-le}
+use lib.Seq.{drop-cons, drop-drop, take-suc-set, take_all, take_at, length-take-le}
 use borrow.Rule.Slice.PartMut.{put_mid, post_of}
-use Rattle.octets.specs.Bytes.{bytes_of, row, total, Narrow}
+use Rattle.octets.specs.Bytes.{number_of, bytes_of, numbers_in, row, total, Narrow}
 
 -- the elements from i on are the one at i and those behind it
 pub drop-one : (l : List ℕ) (i : ℕ) → i < length l → drop i l ≡ get_or l i 0 ∷ drop (i + 1) l
@@ -37,6 +37,13 @@ total-next ws k h = ap total (drop-one ws k h)
 pub row_next : (ws ns : List ℕ) (k : ℕ) → k < length ws → k < length ns →
     row (drop k ws) (drop k ns) ≡ bytes_of (get_or ws k 0) (get_or ns k 0) ++ row (drop (k + 1) ws) (drop (k + 1) ns)
 row_next ws ns k h l = ap₂ row (drop-one ws k h) (drop-one ns k l)
+
+-- the numbers from place `at` on: the first w bytes there, and what stands behind them
+pub numbers-next : (ws b : List ℕ) (k at : ℕ) → k < length ws →
+    numbers_in (drop k ws) (drop at b) ≡ number_of (take (get_or ws k 0) (drop at b)) ∷ numbers_in (drop (k + 1) ws) (drop (at + get_or ws k 0) b)
+numbers-next ws b k at h =
+    ap (λ (l : List ℕ). numbers_in l (drop at b)) (drop-one ws k h)
+    ∙ ap (λ (l : List ℕ). number_of (take (get_or ws k 0) (drop at b)) ∷ numbers_in (drop (k + 1) ws) l) (drop-drop (get_or ws k 0) at b)
 
 -- each width is at most 8
 pub narrow_at : (ws : List ℕ) → Narrow ws → (k : ℕ) → get_or ws k 0 ≤ 8

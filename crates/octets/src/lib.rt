@@ -9,9 +9,11 @@ pub fn number(bytes: &[u8]) -> u64
     requires { length bytes.now ≤ 8 }
     ensures { result ≡ number_of bytes.now }
 {
-    let mut whole = [0; 8];
-    whole[..bytes.len()].copy_from_slice(bytes);
-    u64::from_le_bytes(whole)
+    let mut x: u64 = 0;
+    for i in (0..bytes.len()).rev() {
+        x = x * 256 + u64::from(bytes[i]);
+    }
+    x
 }
 
 // The number of 2 bytes at an offset.

@@ -24,9 +24,9 @@ impl Kind {
         ensures { result ≡ kind_number self }
     {
         match self {
-            Kind::Dip => 1,
-            Kind::Swell => 2,
-            Kind::Interruption => 3,
+            Kind::Dip => Event::DIP,
+            Kind::Swell => Event::SWELL,
+            Kind::Interruption => Event::INTERRUPTION,
         }
     }
 }
@@ -43,7 +43,13 @@ pub struct Event {
 }
 
 impl Event {
-    // A rapid voltage change's number in a record.
+    // The kinds' numbers in a record. `Kind` has the first three, of the events that are told by a threshold; the last is a rapid voltage change's.
+    pub const DIP: u8 = 1;
+
+    pub const SWELL: u8 = 2;
+
+    pub const INTERRUPTION: u8 = 3;
+
     pub const CHANGE: u8 = 4;
 }
 

@@ -27,13 +27,13 @@ part-next front xs i {p} {o} h p-is o-is =
     ∙ ap part_of (sym more))
 
 -- the sum and the mark of four pairs
-abbrev sum_of : Pair → Pair → Pair → Pair → ℕ
+abbrev pub sum_of : Pair → Pair → Pair → Pair → ℕ
 sum_of p q r s = s.squares + r.squares + q.squares + p.squares
 
 abbrev marked : Pair → Bool
 marked p = p.left || p.right
 
-abbrev mark_of : Pair → Pair → Pair → Pair → Bool
+abbrev pub mark_of : Pair → Pair → Pair → Pair → Bool
 mark_of p q r s = marked p || marked q || marked r || marked s
 
 -- two marks that each take one more

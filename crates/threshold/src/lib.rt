@@ -2,7 +2,6 @@
 #![tactic(auto)]
 
 ghost use Rattle.std.specs.Prelude.{◌≡◌, ◌≤◌};
-ghost use Rattle.reading.specs.Thresholds.{kind_number};
 ghost use Rattle.threshold.specs.Standing.{begins_at, ends_at, worse, no_event, worsened, stepped, ended_at};
 
 use reading::{Event, Kind, Record};
@@ -102,12 +101,12 @@ impl Standing {
     }
 
     // The record of the event that stood before value i and, as `after` says, stands no longer after it.
-    pub fn ended(self, kind: Kind, i: u64, after: Standing) -> Option<Record>
-        ensures { result ≡ ended_at (kind_number kind) i self after }
+    pub fn ended(self, code: u8, i: u64, after: Standing) -> Option<Record>
+        ensures { result ≡ ended_at code i self after }
     {
         if (0 < self.start) & (after.start == 0) {
             let event = Event {
-                kind: kind.number(),
+                kind: code,
                 start: self.start,
                 duration: i.saturating_sub(self.start),
                 first: self.magnitude,

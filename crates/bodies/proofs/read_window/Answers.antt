@@ -1,75 +1,42 @@
--- V, the values and the marks are the body's numbers, so that `values_good` answers the reading's test of them.
-use mathlib.Core.Path.{◌≡◌, refl, sym, ◌∙◌, ap, ap₂}
+-- The numbers that are tested are the body's, so that `values_good` answers the reading's test of them.
+use mathlib.Core.Path.{◌≡◌, sym, ◌∙◌, ap}
 use mathlib.Core.Bool.{Bool}
-use mathlib.Core.List.{List, [], ◌∷◌, ◌++◌}
-use Prim.Native.Nat.{ℕ, ◌-◌}
-use native.Mathlib.Omega.{arith}
-use lib.ListN.{length, take, drop, replicate, take-append-drop, length-take, length-drop}
-use lib.Seq.{take_all, take_at, drop_at, drop-drop, take-append-le, drop-append-le}
-use Rattle.octets.specs.Bytes.{number_of, numbers_in, total}
-use Rattle.octets.specs.RowLaws.{length-numbers_in, numbers_in-append, numbers_in-ones}
+use mathlib.Core.List.{List, ◌∷◌, ◌++◌}
+use Prim.Native.Nat.{ℕ}
+use lib.ListN.{drop, take-append-drop}
+use Rattle.octets.specs.Bytes.{numbers_in}
 use Rattle.numbers.specs.Notation.{flag, refuse◌unless◌then◌}
 use Rattle.numbers.specs.Answers.{answered}
 use Rattle.numbers.specs.Rules.{passes}
 use Rattle.settings.specs.declared.Settings.{Settings}
 use Rattle.settings.specs.Settings.{window_length_of}
-use Rattle.reading.specs.Layout.{count_width, places, values_widths, values_length}
+use Rattle.reading.specs.Layout.{places, values_widths}
 use Rattle.reading.specs.Restore.{values_rule}
-use Rattle.bodies.specs.Bodies.{marks_at, window_from, window_answer}
+use Rattle.bodies.specs.declared.WindowRead.{WindowRead}
+use Rattle.bodies.specs.Bodies.{window_from, window_answer}
 use Rattle.bodies.proofs.read_window.Goals as goal
 
--- bytes behind those of a row leave its numbers
-numbers_in-front : (ws b rest : List ℕ) → length b ≡ total ws → numbers_in ws (b ++ rest) ≡ numbers_in ws b
-numbers_in-front [] b rest e = refl
-numbers_in-front (w ∷ ws) b rest e =
-    ap₂ ◌∷◌
-    (ap number_of (take-append-le w b rest (omega arith)))
-    (ap (numbers_in ws) (drop-append-le w b rest (omega arith)) ∙ numbers_in-front ws (drop w b) rest (simp length-drop (omega arith)))
+module _ (body : List ℕ) where
+  abbrev ns : List ℕ
+  ns = numbers_in values_widths body
 
-module _ (body : List ℕ) (size : length body ≡ values_length) where
-  abbrev words : List ℕ
-  words = take (marks_at - count_width) (drop count_width body)
+  -- V, the values and the marks, one behind the other, are the numbers that they were taken from
+  again : (w : WindowRead) → w ≡ window_from ns → w.count ∷ (w.window ++ w.marks) ≡ ns
+  again w is = ap (λ (w : WindowRead). w.count ∷ (w.window ++ w.marks)) is ∙ ap ((window_from ns).count ∷◌) (take-append-drop places (drop 1 ns))
 
-  abbrev rest : List ℕ
-  rest = drop marks_at body
-
-  words_are : numbers_in (replicate places 4) words ≡ numbers_in (replicate places 4) (drop count_width body)
-  words_are =
-      sym (numbers_in-front (replicate places 4) words (drop (marks_at - count_width) (drop count_width body)) (simp (length-take, length-drop) (omega arith)))
-      ∙ ap (numbers_in (replicate places 4)) (take-append-drop (marks_at - count_width) (drop count_width body))
-
-  marks_are : take (values_length - marks_at) rest ≡ numbers_in (replicate places 1) (drop (marks_at - count_width) (drop count_width body))
-  marks_are =
-      let long : length rest ≡ places = simp length-drop (omega arith) in
-      let ones : numbers_in (replicate places 1) rest ≡ rest = rw long at (numbers_in-ones rest) in
-      take_all (values_length - marks_at) rest (omega arith) ∙ (sym ones ∙ ap (numbers_in (replicate places 1)) (sym (drop-drop (marks_at - count_width) count_width body)))
-
-  numbers-are : number_of (take count_width body) ∷ (numbers_in (replicate places 4) words ++ take (values_length - marks_at) rest) ≡ numbers_in values_widths body
-  numbers-are =
-      ap (number_of (take count_width body) ∷◌)
-      (ap₂ ◌++◌ words_are marks_are ∙ sym (numbers_in-append (replicate places 4) (replicate places 1) (drop count_width body)))
-
-  window-told : (s : Settings) (whole : Bool) {v n : ℕ} {w marks : List ℕ} →
-      v ≡ number_of (take count_width body) → w ≡ numbers_in (replicate places 4) words → marks ≡ take (values_length - marks_at) rest → n ≡ window_length_of s →
-      (r : Bool) → r ≡ passes (values_rule n (flag whole) (v ∷ (w ++ marks))) →
-      answered (refuse 11 unless r then 0) (record { count = v; window = w; marks = marks }) ≡ window_answer s whole body
+  window-told : (s : Settings) (whole : Bool) {n : ℕ} (w : WindowRead) → w ≡ window_from ns → n ≡ window_length_of s →
+      (r : Bool) → r ≡ passes (values_rule n (flag whole) (w.count ∷ (w.window ++ w.marks))) → answered (refuse 11 unless r then 0) w ≡ window_answer s whole body
   unfolding window_answer
-  window-told s whole {v} {n} {w} {marks} v-is w-is marks-is n-is r e =
-      let are : v ∷ (w ++ marks) ≡ numbers_in values_widths body = (λ i. v-is i ∷ (w-is i ++ marks-is i)) ∙ numbers-are in
-      let long : length w ≡ places = ap length w-is ∙ length-numbers_in (replicate places 4) words in
-      let window-is = sym (take_at w marks places long) in
-      let marks_are = sym (drop_at w marks places long) in
-      (λ i. answered (refuse 11 unless e i then 0) (record { count = v; window = window-is i; marks = marks_are i }))
-      ∙ (λ i. answered (refuse 11 unless passes (values_rule (n-is i) (flag whole) (are i)) then 0) (window_from (are i)))
+  window-told s whole {n} w is n-is r e =
+      (λ i. answered (refuse 11 unless e i then 0) (is i))
+      ∙ (λ i. answered (refuse 11 unless passes (values_rule (n-is i) (flag whole) (again w is i)) then 0) (window_from ns))
 
 pub returns-then-not-values_good : goal.returns-then-not-values_good
 returns-then-not-values_good c =
-    ap (λ (b : Bool). answered (refuse 11 unless b then 0) (record { count = c.number-count.result; window = c.get_words.new.places; marks = c.copy_from_slice.new.self })) (sym c.if-not-values_good.true)
-    ∙ window-told c.args.part.now c.requires c.args.settings c.args.whole c.number-count.ensures c.get_words.ensures c.copy_from_slice.ensures.after c.window_length.ensures.0
-    c.values_good.result c.values_good.ensures
+    ap (λ (b : Bool). answered (refuse 11 unless b then 0) c.read_places-read.result) (sym c.if-not-values_good.true)
+    ∙ window-told c.args.part.now c.args.settings c.args.whole c.read_places-read.result c.read_places-read.ensures c.window_length.ensures.0 c.values_good.result c.values_good.ensures
 
 pub returns : goal.returns
 returns c =
-    ap (λ (b : Bool). answered (refuse 11 unless b then 0) (record { count = c.number-count.result; window = c.get_words.new.places; marks = c.copy_from_slice.new.self })) (sym c.if-not-values_good.false)
-    ∙ window-told c.args.part.now c.requires c.args.settings c.args.whole c.number-count.ensures c.get_words.ensures c.copy_from_slice.ensures.after c.window_length.ensures.0
-    c.values_good.result c.values_good.ensures
+    ap (λ (b : Bool). answered (refuse 11 unless b then 0) c.read_places-read.result) (sym c.if-not-values_good.false)
+    ∙ window-told c.args.part.now c.args.settings c.args.whole c.read_places-read.result c.read_places-read.ensures c.window_length.ensures.0 c.values_good.result c.values_good.ensures

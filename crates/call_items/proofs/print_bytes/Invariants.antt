@@ -7,4 +7,4 @@ abbrev pub invariant-loop-part : goal.invariant-loop-part
 invariant-loop-part l =
     (goal.iterator-loop-part).can_next l.part-iterator ×
     (goal.iterator-loop-part).is_finite l.part-iterator ×
-    (chunks_size l.part-iterator ≡ 4096)
+    (chunks_size l.part-iterator ≡ 32768)

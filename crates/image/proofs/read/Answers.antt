@@ -1,5 +1,4 @@
 -- Behind each section stands the answer by those read so far, and each way out is one of them.
-use Rattle.std.proofs.lemmas.Result.{err_from_is_err_and}
 use mathlib.Core.Path.{◌≡◌, sym, ◌∙◌, ap}
 use mathlib.Core.List.{List}
 use Prim.Native.Nat.{ℕ}
@@ -43,28 +42,26 @@ module _ (b : List ℕ) (size : length b ≡ image_length) where
 pub returns-then-bytes-ne-IMAGE_LENGTH : goal.returns-then-bytes-ne-IMAGE_LENGTH
 returns-then-bytes-ne-IMAGE_LENGTH c = sym (other_length c.args.bytes.now c.if-bytes-ne-IMAGE_LENGTH.true)
 
-pub returns-in_err-read_table : goal.returns-in_err-read_table
-returns-in_err-read_table c =
-    let p = err_from_is_err_and c.from_residual.result c.from_residual.ensures.1 in rw (p.1, p.2) (table c.args.bytes.now (omega arith) _ c.in_err-read_table.ensures)
-
 pub returns-in_default : goal.returns-in_default
-returns-in_default c = settings c.args.bytes.now (omega arith) c.in_ok-read_table.ensures _ c.in_default.ensures
+returns-in_default c = table c.args.bytes.now (omega arith) _ c.in_default.ensures
 
-pub returns-in_err-gatherer : goal.returns-in_err-gatherer
-returns-in_err-gatherer c =
-    let p = err_from_is_err_and c.from_residual-in_err-gatherer.result c.from_residual-in_err-gatherer.ensures.1 in
-    rw (p.1, p.2) (gatherer c.args.bytes.now (omega arith) c.in_ok-read_table.ensures _ c.in-Ok.ensures _ c.in_err-gatherer.ensures)
+pub returns-in_default-from_bytes : goal.returns-in_default-from_bytes
+returns-in_default-from_bytes c = settings c.args.bytes.now (omega arith) c.in-Ok.ensures _ c.in_default-from_bytes.ensures
 
-pub returns-in_err-count : goal.returns-in_err-count
-returns-in_err-count c =
-    let p = err_from_is_err_and c.from_residual-in_err-count.result c.from_residual-in_err-count.ensures.1 in
-    rw (p.1, p.2) (window c.args.bytes.now (omega arith) c.in_ok-read_table.ensures _ c.in-Ok.ensures _ c.in_ok-gatherer.ensures _ c.in_err-count.ensures)
+pub returns-in_default-read_gatherer : goal.returns-in_default-read_gatherer
+returns-in_default-read_gatherer c =
+    gatherer c.args.bytes.now (omega arith) c.in-Ok.ensures _ c.in-Ok-from_bytes.ensures _ c.in_default-read_gatherer.ensures
 
-pub returns-in_err-detector : goal.returns-in_err-detector
-returns-in_err-detector c =
-    let p = err_from_is_err_and c.from_residual-in_err-detector.result c.from_residual-in_err-detector.ensures.1 in
-    rw (p.1, p.2)
-    (detector c.args.bytes.now (omega arith) c.in_ok-read_table.ensures _ c.in-Ok.ensures _ c.in_ok-gatherer.ensures _ c.in_ok-count.ensures _ c.in_err-detector.ensures)
+pub returns-in_default-read_window : goal.returns-in_default-read_window
+returns-in_default-read_window c =
+    window c.args.bytes.now (omega arith) c.in-Ok.ensures _ c.in-Ok-from_bytes.ensures _ c.in-Ok-read_gatherer.ensures _ c.in_default-read_window.ensures
+
+pub returns-in_default-read_detector : goal.returns-in_default-read_detector
+returns-in_default-read_detector c =
+    detector c.args.bytes.now (omega arith) c.in-Ok.ensures _ c.in-Ok-from_bytes.ensures _ c.in-Ok-read_gatherer.ensures _ c.in-Ok-read_window.ensures
+    _ c.in_default-read_detector.ensures
 
 pub returns : goal.returns
-returns c = detector c.args.bytes.now (omega arith) c.in_ok-read_table.ensures _ c.in-Ok.ensures _ c.in_ok-gatherer.ensures _ c.in_ok-count.ensures _ c.in_ok-detector.ensures
+returns c =
+    detector c.args.bytes.now (omega arith) c.in-Ok.ensures _ c.in-Ok-from_bytes.ensures _ c.in-Ok-read_gatherer.ensures _ c.in-Ok-read_window.ensures
+    _ c.in-Ok-read_detector.ensures
